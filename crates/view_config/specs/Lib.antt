@@ -1,0 +1,4 @@
+pub mod Limits
+pub mod Nodes
+pub mod Shape
+pub mod Config

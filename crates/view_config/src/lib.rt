@@ -1,0 +1,15 @@
+//! The shape of a log (how many nodes of each role, in which mode and edition), the numbers of its
+//! nodes, and the configurations that its views have.
+//!
+//! Nothing here changes or sends anything. `specs/` has the same in words for contracts.
+#![tactic(auto)]
+
+mod config;
+mod edition;
+mod nodes;
+mod shape;
+
+pub use config::{Config, NodeList, ShardList};
+pub use edition::{Edition, Mode};
+pub use nodes::{BOARD, CONTROLLER, Node, client_id, seq_id, shard_id};
+pub use shape::Shape;
