@@ -34,7 +34,8 @@ pub struct Cell {
     pub body: Body,
 }
 
-fn copy_optional(bytes: &Option<Bytes>) -> Result<Option<Bytes>, AllocError>
+/// Equal bytes, where there are any.
+pub fn copy_optional(bytes: &Option<Bytes>) -> Result<Option<Bytes>, AllocError>
     ensures { IfOk result (λ made. made ≡ bytes.now) }
 {
     match bytes {

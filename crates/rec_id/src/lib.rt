@@ -16,7 +16,7 @@ mod record_id;
 pub use bytes::Bytes;
 pub use entry::Entry;
 pub use event::{Ask, Event};
-pub use item::{Body, Cell, Item};
+pub use item::{Body, Cell, Item, copy_optional};
 pub use lists::{
     CellList, EventList, IdList, ItemList, Line, PlacedList, Text, TextList, WindowList, Words,
 };

@@ -1,0 +1,4 @@
+pub mod Refused
+pub mod Weight
+pub mod Outbox
+pub mod Step
