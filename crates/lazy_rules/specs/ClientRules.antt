@@ -1,0 +1,121 @@
+use Rattle.std.specs.Prelude.{ℕ, ◌+◌, ◌-◌, ◌^◌, List, [], ◌∷◌, ◌++◌, length, map, filter, position, remove, Bool, not, ◌&&◌, ◌==◌, nat_le, nat_lt, if◌then◌else◌, Option, Some, None, slice_get, slice_set, unwrap_or}
+use Rattle.std.specs.List.{list_all}
+use Rattle.rec_id.specs.Identity.{Identity, shard_of}
+use Rattle.rec_id.specs.declared.event.Event.TheVariants.{Invoke, Acked}
+use Rattle.view_config.specs.declared.edition.Mode.{Mode}
+use Rattle.view_config.specs.declared.edition.Mode.TheVariants.{M, St}
+use Rattle.view_config.specs.Limits.{window_of, record_limit}
+use Rattle.lazy_msgs.specs.declared.msg.Msg.{Msg}
+use Rattle.lazy_msgs.specs.declared.msg.Msg.TheVariants.{Append, AppendAck, Put}
+use Rattle.lazy_msgs.specs.declared.refused.PostRefused.{PostRefused}
+use Rattle.lazy_msgs.specs.declared.refused.PostRefused.TheVariants.{TooLong, NumbersSpent, WindowFull}
+use Rattle.lazy_msgs.specs.Step.{Row}
+use Rattle.lazy_rules.specs.ClientState.{ClientState, OpenAppend, id_of, lowest}
+use Rattle.lazy_rules.specs.Door.{is_turned_away}
+use Rattle.lazy_rules.specs.Rows.{stays, has_node}
+
+-- why an append of so many bytes is refused, if it is
+abbrev pub post_refusal : ClientState → ℕ → Option PostRefused
+post_refusal c size =
+    if nat_lt (record_limit c.shape.edition) size then Some TooLong
+    else (if c.next == 2 ^ 32 - 1 then Some NumbersSpent
+    else (if nat_le (lowest c.next c.unfinished + window_of c.shape.edition) c.next then Some (WindowFull (lowest c.next c.unfinished))
+    else None))
+
+-- the replicas of the shard that keeps this record's data
+abbrev pub homes_of : ClientState → Identity → List ℕ
+homes_of c id = unwrap_or (slice_get c.config.shards (shard_of id c.shape.shards)) []
+
+-- the nodes among these that haven't acknowledged the append
+abbrev pub lacking : OpenAppend → List ℕ → List ℕ
+lacking append nodes = filter (λ node. not (has_node append.acked node)) nodes
+
+-- the data that goes through the sequencing replicas
+abbrev pub carried : Mode → List ℕ → Option (List ℕ)
+carried M bytes = Some bytes
+carried St bytes = None
+
+-- the nodes that an append's data goes to by itself
+abbrev pub data_nodes : Mode → List ℕ → List ℕ
+data_nodes M homes = []
+data_nodes St homes = homes
+
+-- SENDING an append: its data to its shard, then the record to the sequencing replicas, in each case
+-- to those that haven't acknowledged
+abbrev pub sending_data : ClientState → OpenAppend → List (ℕ × Msg)
+sending_data c append =
+    map (λ node. (node, Put (id_of c append.number) append.bytes))
+    (lacking append (data_nodes c.shape.mode (homes_of c (id_of c append.number))))
+
+abbrev pub sending_record : ClientState → OpenAppend → List (ℕ × Msg)
+sending_record c append =
+    map (λ node. (node, Append c.config.view (id_of c append.number) (carried c.shape.mode append.bytes)))
+    (lacking append c.config.seq)
+
+abbrev pub sending : ClientState → OpenAppend → List (ℕ × Msg)
+sending c append = sending_data c append ++ sending_record c append
+
+-- Post: the append gets the next number, and is sent
+abbrev pub begun : ClientState → List ℕ → OpenAppend
+begun c bytes = record { number = c.next; bytes = bytes; acked = [] }
+
+abbrev pub invokes : ClientState → List ℕ → Row ClientState
+invokes c bytes = record {
+  next = record c { next = c.next + 1; unfinished = c.unfinished ++ begun c bytes ∷ [] };
+  sends = sending c (begun c bytes);
+  events = Invoke (id_of c c.next) bytes ∷ []
+}
+
+-- the append with one more node that acknowledged it
+abbrev pub noted : OpenAppend → ℕ → OpenAppend
+noted append node =
+    if has_node append.acked node then append else record append { acked = append.acked ++ node ∷ [] }
+
+-- all whose word is wanted have acknowledged the append
+abbrev pub is_complete : ClientState → OpenAppend → Bool
+is_complete c append =
+    list_all (has_node append.acked) c.config.seq
+    && list_all (has_node append.acked) (data_nodes c.shape.mode (homes_of c (id_of c append.number)))
+
+-- the append at place i is finished
+abbrev pub finishes : ClientState → ℕ → OpenAppend → Row ClientState
+finishes c i append = record {
+  next = record c { unfinished = remove c.unfinished i };
+  sends = [];
+  events = Acked (id_of c append.number) ∷ []
+}
+
+-- the append at place i has been acknowledged by one node more
+abbrev pub acknowledges : ClientState → ℕ → OpenAppend → Row ClientState
+acknowledges c i append =
+    if is_complete c append then finishes c i append
+    else stays (record c { unfinished = slice_set c.unfinished i append })
+
+abbrev pub acknowledged_at : ClientState → ℕ → ℕ → Option OpenAppend → Row ClientState
+acknowledged_at c node i None = stays c
+acknowledged_at c node i (Some append) = acknowledges c i (noted append node)
+
+abbrev pub acknowledged : ClientState → ℕ → Option ℕ → Row ClientState
+acknowledged c node None = stays c
+acknowledged c node (Some i) = acknowledged_at c node i (slice_get c.unfinished i)
+
+-- where an append of this number stands among the unfinished ones
+abbrev pub place_of : ClientState → ℕ → Option ℕ
+place_of c number = position (λ append. append.number == number) c.unfinished
+
+-- AppendAck: noted where it is of the client's view and of a sequencing replica of it
+abbrev pub on_append_ack : ClientState → ℕ → ℕ → Identity → Row ClientState
+on_append_ack c from view id =
+    if not (view == c.config.view) then stays c
+    else (if not (id.client == c.client) then stays c
+    else (if not (has_node c.config.seq from) then stays c
+    else acknowledged c from (place_of c id.number)))
+
+-- what a message does, at a client that it isn't turned away from
+abbrev pub client_row : ClientState → ℕ → Msg → Row ClientState
+client_row c from (AppendAck view id) = on_append_ack c from view id
+client_row c from _ = stays c
+
+-- what a message from this node does
+abbrev pub client_took : ClientState → ℕ → Msg → Row ClientState
+client_took c from msg = if is_turned_away c.shape from msg then stays c else client_row c from msg

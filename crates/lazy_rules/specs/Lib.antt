@@ -1,0 +1,10 @@
+pub mod Rows
+pub mod Windows
+pub mod Door
+pub mod Flight
+pub mod SeqState
+pub mod SeqRules
+pub mod ClientState
+pub mod ClientRules
+pub mod WorldState
+pub mod WorldRules
