@@ -1,6 +1,6 @@
 //! The outbox: what a step sends and tells, within the room that its caller made.
 
-ghost use Rattle.std.specs.Prelude.{◌≡◌, ◌+◌, ◌-◌, ◌^◌, ◌<◌, ◌≤◌, [], ◌∷◌, length, take, drop, OnOk, OnErr, Err};
+ghost use Rattle.std.specs.Prelude.{◌≡◌, ◌+◌, ◌-◌, ◌^◌, ◌<◌, ◌≤◌, [], ◌∷◌, length, take, drop, IfSome, IfNone, OnOk, OnErr, Err};
 ghost use Rattle.lazy_msgs.specs.Weight.{sends_weight};
 ghost use Rattle.lazy_msgs.specs.Outbox.{Out, Fits, put_on};
 
@@ -51,6 +51,23 @@ fn weight_from(sends: &[(u32, Msg)], from: usize) -> u64
     sum
 }
 
+#[tactic(auto, using(crate::proofs::Sends::sum_so_far))]
+/// What the messages weigh, `None` where that is more than `left`.
+fn weight_within(sends: &[(u32, Msg)], left: u64) -> Option<u64>
+    ensures within { IfSome result (λ weight. (weight ≡ sends_weight sends.now) × (weight ≤ left)) }
+    ensures over { IfNone result (left < sends_weight sends.now) }
+{
+    let mut sum = 0u64;
+    for send in sends {
+        let weight = message_weight(&send.1);
+        if weight > left - sum {
+            return None;
+        }
+        sum += weight;
+    }
+    Some(sum)
+}
+
 impl Outbox {
     /// An empty outbox with room for so many messages of so much weight.
     pub fn new(alloc: Global, messages: u32, weight: u64) -> Outbox
@@ -80,6 +97,30 @@ impl Outbox {
             return Err(OutboxRefused::Over);
         }
         self.sends.push((to, msg))?;
+        self.weight += weight;
+        Ok(())
+    }
+
+    /// Puts in all that one step sends and tells, or nothing of it. `Over` where there is no room
+    /// for the messages.
+    pub fn put(&mut self, sends: SendList, events: EventList) -> Result<(), OutboxRefused>
+        ensures ok { OnOk result (self.new ≡ put_on self.old sends events) }
+        ensures fits { OnOk result (Fits sends self.old) }
+        ensures over { result ≡ Err OutboxRefused.Over → ¬ Fits sends self.old }
+        ensures err { OnErr result (self.new ≡ self.old) }
+    {
+        if sends.len() > self.room_messages as usize - self.sends.len() {
+            return Err(OutboxRefused::Over);
+        }
+        let Some(weight) = weight_within(sends.as_slice(), self.room_weight - self.weight) else {
+            return Err(OutboxRefused::Over);
+        };
+        let before = self.sends.len();
+        self.sends.append(sends)?;
+        if self.events.append(events).is_err() {
+            self.sends.truncate(before);
+            return Err(OutboxRefused::Memory);
+        }
         self.weight += weight;
         Ok(())
     }

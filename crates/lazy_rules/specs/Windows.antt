@@ -1,22 +1,16 @@
-use Rattle.std.specs.Prelude.{ℕ, List, Bool, false, Option, Some, None, slice_get, slice_set}
+use Rattle.std.specs.Prelude.{ℕ, List, Bool, slice_index_or, slice_set}
 use Rattle.rec_id.specs.Identity.{Identity}
-use Rattle.rec_id.specs.Marks.{is_seen, mark}
+use Rattle.rec_id.specs.Marks.{is_seen, mark, no_marks}
 use Rattle.rec_id.specs.declared.marks.Marks.{Marks}
 
--- the identity is seen by the marks of its client
-abbrev pub seen_by : Option Marks → ℕ → Bool
-seen_by None number = false
-seen_by (Some marks) number = is_seen marks number
+-- the marks of a client in a window, which has the marks of each; none where it lacks the client
+abbrev pub marks_of : List Marks → ℕ → Marks
+marks_of window client = slice_index_or window client (no_marks 0)
 
--- the window, which has the marks of each client, has seen the identity
+-- the window has seen the identity
 abbrev pub has_seen : List Marks → Identity → Bool
-has_seen window id = seen_by (slice_get window id.client) id.number
-
--- the window with this client's marks, and one number of it more
-abbrev pub marked_by : List Marks → ℕ → Option Marks → ℕ → List Marks
-marked_by window client None number = window
-marked_by window client (Some marks) number = slice_set window client (mark marks number)
+has_seen window id = is_seen (marks_of window id.client) id.number
 
 -- the window with one identity more
 abbrev pub marked_in : List Marks → Identity → List Marks
-marked_in window id = marked_by window id.client (slice_get window id.client) id.number
+marked_in window id = slice_set window id.client (mark (marks_of window id.client) id.number)

@@ -64,6 +64,16 @@ impl<T: Drop> Sequence<T> {
         Ok(())
     }
 
+    /// Appends the members of `other`, all or none.
+    pub fn append(&mut self, other: Sequence<T>) -> Result<(), AllocError>
+        ensures ok { OnOk result (self.new ≡ self.old ++ other) }
+        ensures err { OnErr result (self.new ≡ self.old) }
+    {
+        let mut others = other.into_vec();
+        self.kept.append(&mut others)?;
+        Ok(())
+    }
+
     /// Takes out the last member.
     pub fn pop(&mut self) -> Option<T>
         ensures none { IsNone result ↔ (self.old ≡ []) }
@@ -130,7 +140,10 @@ mod tests {
         assert_eq!(rt; list.copy()?.as_slice(), [7, 8, 9].as_slice());
         assert_eq!(rt; list.pop(), Some(9));
         list.truncate(1);
-        assert_eq!(rt; list.into_vec().as_slice(), [7].as_slice());
+        let mut other = Sequence::new(rt.alloc());
+        other.push(6)?;
+        list.append(other)?;
+        assert_eq!(rt; list.into_vec().as_slice(), [7, 6].as_slice());
         Ok(())
     }
 }
