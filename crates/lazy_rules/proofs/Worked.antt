@@ -27,6 +27,6 @@ shown w = record { history = w.history; messages = length w.sent; events = w.eve
 pub acknowledged_unbound : shown (run (Post 0 (97 ∷ []) ∷ flow 1 6) (first_world three)) ≡ record {
   history = Invoke (record { client = 0; number = 1 }) (97 ∷ []) ∷ Acked (record { client = 0; number = 1 }) ∷ [];
   messages = 6;
-  events = 7
+  events = 7;
 }
 acknowledged_unbound = refl

@@ -63,13 +63,16 @@ abbrev pub invokes : ClientState → List ℕ → Row ClientState
 invokes c bytes = record {
   next = record c { next = c.next + 1; unfinished = c.unfinished ++ begun c bytes ∷ [] };
   sends = sending c (begun c bytes);
-  events = Invoke (id_of c c.next) bytes ∷ []
+  events = Invoke (id_of c c.next) bytes ∷ [];
 }
+
+-- the nodes with one more, each once
+abbrev pub with_node : List ℕ → ℕ → List ℕ
+with_node nodes node = if has_node nodes node then nodes else nodes ++ node ∷ []
 
 -- the append with one more node that acknowledged it
 abbrev pub noted : OpenAppend → ℕ → OpenAppend
-noted append node =
-    if has_node append.acked node then append else record append { acked = append.acked ++ node ∷ [] }
+noted append node = record append { acked = with_node append.acked node }
 
 -- all whose word is wanted have acknowledged the append
 abbrev pub is_complete : ClientState → OpenAppend → Bool
@@ -82,7 +85,7 @@ abbrev pub finishes : ClientState → ℕ → OpenAppend → Row ClientState
 finishes c i append = record {
   next = record c { unfinished = remove c.unfinished i };
   sends = [];
-  events = Acked (id_of c append.number) ∷ []
+  events = Acked (id_of c append.number) ∷ [];
 }
 
 -- the append at place i has been acknowledged by one node more

@@ -28,7 +28,7 @@ has_room s = nat_lt (length s.pending) pending_limit && nat_lt (s.bound + length
 abbrev pub with_item : SeqState → Identity → Option (List ℕ) → SeqState
 with_item s id bytes = record s {
   pending = s.pending ++ record { id = id; bytes = bytes } ∷ [];
-  window = marked_in s.window id
+  window = marked_in s.window id;
 }
 
 -- Append: a known identity is acknowledged again, a new one is taken and acknowledged

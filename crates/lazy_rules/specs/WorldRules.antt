@@ -34,7 +34,7 @@ stepped w node received sends told = record w {
   times = slice_set w.times node (step_time w node received);
   sent = w.sent ++ enveloped node (step_time w node received) sends;
   history = w.history ++ told;
-  events = w.events + 1
+  events = w.events + 1;
 }
 
 -- the world after a step of client c

@@ -34,5 +34,5 @@ first_world shape = record {
   crashed = [];
   sent = [];
   history = [];
-  events = 0
+  events = 0;
 }

@@ -1,0 +1,8 @@
+//! The world of events: the nodes of a log, the messages between them, and the history of the
+//! clients. Each event is one step of one node.
+#![tactic(auto)]
+
+mod append_client;
+mod sending;
+
+pub use append_client::{AppendClient, AppendState};
