@@ -1,0 +1,25 @@
+use Rattle.std.proofs.Common.{◌-◌, ◌^◌, not, eqb, rules, arith}
+use Rattle.lane_scan.proofs.First.{position_found, position_none, none_more, block_found, block_more}
+use Rattle.lane_scan.proofs.find.first_not_full.Goals as goal
+
+pub lanes-init : goal.lanes-init
+lanes-init c = record { within = omega arith; fails = λ k below. absurd (omega arith) }
+
+pub returns-then-before-lt-LANES : goal.returns-then-before-lt-LANES
+returns-then-before-lt-LANES c =
+    block_found (λ other. not (eqb other (2 ^ 64 - 1))) c.args.words.now c.lanes.at c.same_before-before.result (omega arith) c.same_before-before.ensures c.lanes.invariant c.if-before-lt-LANES.true
+
+pub lanes-preserved : goal.lanes-preserved
+lanes-preserved c =
+    block_more (λ other. not (eqb other (2 ^ 64 - 1))) c.args.words.now c.lanes.at c.same_before-before.result (omega arith) c.same_before-before.ensures c.lanes.invariant (omega arith)
+
+pub returns-then-words-at : goal.returns-then-words-at
+returns-then-words-at c =
+    position_found (λ other. not (eqb other (2 ^ 64 - 1))) c.args.words.now c.rest.at c.rest.invariant (omega arith) (search rules)
+
+pub rest-preserved : goal.rest-preserved
+rest-preserved c =
+    none_more (λ other. not (eqb other (2 ^ 64 - 1))) c.args.words.now c.rest.at c.rest.invariant (omega arith) (search rules)
+
+pub returns : goal.returns
+returns c = position_none (λ other. not (eqb other (2 ^ 64 - 1))) c.args.words.now c.rest.at c.rest.invariant (omega arith)

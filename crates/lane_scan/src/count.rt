@@ -1,0 +1,43 @@
+//! How many bits are 1.
+
+ghost use Rattle.std.specs.Prelude.{◌≡◌, ◌+◌, ◌^◌, ◌<◌, length, sum_by, count_ones};
+
+use std::simd::prelude::*;
+
+/// How many words are looked at in one step.
+const LANES: usize = 8;
+
+/// How many bits of the words are 1.
+pub fn count_bits(words: &[u64]) -> u64
+    requires { length words.now < 2 ^ 32 }
+    ensures { result ≡ sum_by count_ones words.now }
+{
+    let mut counts = u64x8::splat(0);
+    let mut at = 0;
+    'lanes: while words.len() - at >= LANES {
+        counts = counts.strict_add(u64x8::from_slice(&words[at..]).count_ones());
+        at += LANES;
+    }
+    let mut total = counts.strict_reduce_sum();
+    'rest: while at < words.len() {
+        total += u64::from(words[at].count_ones());
+        at += 1;
+    }
+    total
+}
+
+#[cfg(test)]
+mod tests {
+    use super::*;
+    use crate::{find_word, first_not_full};
+    use std::test::Fail;
+
+    #[test]
+    fn scans(rt: HostRuntime) -> Result<(), Fail> {
+        assert_eq!(rt; find_word(&[1, 2, 3, 4, 5, 6, 7, 8, 9], 9), Some(8));
+        assert_eq!(rt; find_word(&[1, 2, 3, 2, 5, 6, 7, 8, 9], 2), Some(1));
+        assert_eq!(rt; first_not_full(&[u64::MAX; 5]), None);
+        assert_eq!(rt; count_bits(&[0, u64::MAX, 1]), 65);
+        Ok(())
+    }
+}
