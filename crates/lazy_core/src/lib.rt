@@ -4,5 +4,7 @@
 
 mod append_client;
 mod sending;
+mod seq_node;
 
 pub use append_client::{AppendClient, AppendState};
+pub use seq_node::SeqNode;
