@@ -1,1 +1,3 @@
 pub mod AppendState
+pub mod Early
+pub mod Happens

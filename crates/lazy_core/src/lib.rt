@@ -3,6 +3,7 @@
 #![tactic(auto)]
 
 mod append_client;
+mod ledger;
 mod sending;
 mod seq_node;
 

@@ -145,6 +145,13 @@ impl Outbox {
         &self.events
     }
 
+    /// What its messages weigh together.
+    pub fn weight(&self) -> u64
+        ensures { result ≡ sends_weight self.now.sends }
+    {
+        self.weight
+    }
+
     /// Takes out all messages and events.
     pub fn clear(&mut self)
         ensures { self.new ≡ record { sends = []; events = []; messages_left = self.old.messages_left + length self.old.sends; weight_left = self.old.weight_left + sends_weight self.old.sends } }

@@ -1,0 +1,21 @@
+use Rattle.std.specs.Prelude.{◌≡◌, ◌≢◌, ℕ, ◌+◌, ◌≤◌, length, Option, Some, None, Result, Err, OnOk, OnErr, IfErr}
+use Rattle.lazy_msgs.specs.declared.refused.EventRefused.{EventRefused}
+use Rattle.lazy_msgs.specs.declared.refused.EventRefused.TheVariants.{Spent, Memory}
+use Rattle.lazy_rules.specs.WorldRules.{IsWithinLimits, weight_limit, sent_weight}
+use Rattle.lazy_rules.specs.WorldState.{WorldState}
+
+-- so many messages more were sent at most, and all weigh no more than a world's may
+pub record IsWithinRoom (room : ℕ) (before next : WorldState) : Type 0 where
+  pub in_number : length next.sent ≤ length before.sent + room
+  pub in_weight : sent_weight next.sent ≤ weight_limit
+
+-- an event happened as the rules give it, or was refused and left all as it was: for the reason that
+-- the rules give, or as spent where it would have sent more than `Fits` lets it
+pub record HappensIn (Fits : Type 0) (next : WorldState) (reason : Option EventRefused) (before after : WorldState) (outcome : Result (Unit {0}) EventRefused) : Type 0 where
+  pub happened : OnOk outcome (after ≡ next)
+  pub allowed : OnOk outcome (reason ≡ None)
+  pub within : OnOk outcome Fits
+  pub named : IfErr outcome (λ refused. refused ≢ Spent → refused ≢ Memory → reason ≡ Some refused)
+  pub unspent : outcome ≡ Err Spent → reason ≡ None
+  pub spent : outcome ≡ Err Spent → ¬ Fits
+  pub unchanged : OnErr outcome (after ≡ before)
