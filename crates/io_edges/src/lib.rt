@@ -5,10 +5,13 @@
 //! and examples, with and without calls that fail, and forms over the standard streams.
 #![tactic(auto)]
 
+mod plain;
+mod plan;
 mod sink;
 mod source;
 mod status;
 
+pub use plain::{PlainSink, PlainSource};
 pub use sink::{Sink, SinkFailed};
 pub use source::{Failed, Source};
 pub use status::Status;
