@@ -5,13 +5,19 @@
 //! and examples, with and without calls that fail, and forms over the standard streams.
 #![tactic(auto)]
 
+mod mem;
 mod plain;
 mod plan;
 mod sink;
 mod source;
+mod standard;
 mod status;
+mod whole;
 
+pub use mem::{MemSink, MemSource};
 pub use plain::{PlainSink, PlainSource};
 pub use sink::{Sink, SinkFailed};
 pub use source::{Failed, Source};
+pub use standard::{StdSink, StdSource};
 pub use status::Status;
+pub use whole::write_all;
