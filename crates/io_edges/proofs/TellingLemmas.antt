@@ -46,7 +46,7 @@ goes_stops before between after coming coming_then goes stops = record { unwritt
 pub stops_on : {before after : Option (List ℕ)} {piece : List ℕ} (more : List ℕ) →
     Stops before after piece → Stops before after (piece ++ more)
 stops_on {before = before} {after = after} {piece = piece} more stops = record {
-    unwritten = stops.unwritten ++ more;
-    goes = sym (append_known-append after stops.unwritten more)
-      ∙ (ap (λ known. append_known known more) stops.goes ∙ append_known-append before piece more)
-  }
+  unwritten = stops.unwritten ++ more;
+  goes = sym (append_known-append after stops.unwritten more)
+      ∙ (ap (λ known. append_known known more) stops.goes ∙ append_known-append before piece more);
+}

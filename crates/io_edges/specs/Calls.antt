@@ -20,6 +20,6 @@ fails_next calls = list_any (λ number. number == raised calls.made) calls.to_fa
 -- one more call was made, which failed where it was to
 abbrev pub after_call : Calls → Calls
 after_call calls = record calls {
-    made = raised calls.made;
-    faults = if fails_next calls then raised calls.faults else calls.faults
-  }
+  made = raised calls.made;
+  faults = if fails_next calls then raised calls.faults else calls.faults;
+}

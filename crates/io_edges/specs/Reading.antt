@@ -18,6 +18,6 @@ filled bytes buf = take (length buf) bytes ++ drop (length bytes) buf
 -- the source after a read into so much room
 abbrev pub after_read : Reading → ℕ → Reading
 after_read reading room = record {
-    left = if fails_next reading.calls then reading.left else drop room reading.left;
-    calls = after_call reading.calls
-  }
+  left = if fails_next reading.calls then reading.left else drop room reading.left;
+  calls = after_call reading.calls;
+}

@@ -13,6 +13,6 @@ unwritten to_fail = record { written = []; calls = no_calls to_fail }
 -- the sink after a write of these bytes
 abbrev pub after_write : Writing → List ℕ → Writing
 after_write writing bytes = record {
-    written = if fails_next writing.calls then writing.written else writing.written ++ bytes;
-    calls = after_call writing.calls
-  }
+  written = if fails_next writing.calls then writing.written else writing.written ++ bytes;
+  calls = after_call writing.calls;
+}

@@ -5,6 +5,7 @@
 //! and examples, with and without calls that fail, and forms over the standard streams.
 #![tactic(auto)]
 
+mod count;
 mod mem;
 mod plain;
 mod plan;

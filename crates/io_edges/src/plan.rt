@@ -1,18 +1,11 @@
 //! Which calls of a stream fail, for the streams over memory.
 
 ghost use Rattle.std.specs.Prelude.{◌≡◌, IfOk};
-ghost use Rattle.io_edges.specs.Faults.{raised};
 ghost use Rattle.io_edges.specs.Calls.{Calls, no_calls, fails_next, after_call};
 
+use crate::count::raise;
 use std::alloc::{AllocError, Global};
 use std::marker::Model;
-
-/// The number after `count`, which stays at its last value.
-pub fn raise(count: u64) -> u64
-    ensures { result ≡ raised count }
-{
-    if count < u64::MAX { count + 1 } else { count }
-}
 
 /// Counts the calls of a stream, and says which are to fail.
 #[derive(Drop)]

@@ -1,6 +1,6 @@
 //! Where bytes come from.
 
-ghost use Rattle.std.specs.Prelude.{◌≡◌, ◌<◌, ◌≤◌, ℕ, List, Option, Ok, length, take, IfOk, OnOk, OnErr};
+ghost use Rattle.std.specs.Prelude.{◌≡◌, ◌<◌, ◌≤◌, ℕ, List, Option, length, take, IfOk, OnOk, OnErr};
 ghost use Rattle.std.specs.Io.KnownBytes.{prepend_known, IsAtEnd};
 ghost use Rattle.io_edges.specs.Faults.{Rose};
 
@@ -22,7 +22,7 @@ pub trait Source {
         ensures within { IfOk result (λ count. count ≤ length buf.new) }
         ensures bytes { IfOk result (λ count.
             left self.old ≡ prepend_known (take count buf.new) (left self.new)) }
-        ensures end { 0 < length buf.new → result ≡ Ok 0 → IsAtEnd (left self.new) }
+        ensures end { IfOk result (λ count. count ≡ 0 → 0 < length buf.new → IsAtEnd (left self.new)) }
         ensures unread { OnErr result (left self.new ≡ left self.old) }
 
         ensures failed { OnErr result (Rose (faults self.old) (faults self.new)) }

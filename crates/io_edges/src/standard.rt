@@ -2,7 +2,7 @@
 
 ghost use Rattle.std.specs.Prelude.{◌≡◌, ◌<◌, ◌≤◌, ℕ, List, Option, None};
 
-use crate::plan::raise;
+use crate::count::raise;
 use crate::{Failed, Sink, SinkFailed, Source};
 use std::io::{Read, Write};
 use std::marker::Model;
@@ -87,5 +87,80 @@ impl<W: Write + Drop> Sink for StdSink<W> {
                 Err(SinkFailed::Failed)
             }
         }
+    }
+}
+
+#[cfg(test)]
+mod tests {
+    use super::*;
+    use crate::write_all;
+    use std::io;
+    use std::test::Fail;
+
+    // Gives or takes a byte a call, nothing in its second call, and fails in its third.
+    #[derive(Drop)]
+    struct Choppy {
+        turn: u8,
+        got: Vec<u8>,
+    }
+
+    impl Choppy {
+        fn count(&mut self) -> io::Result<bool> {
+            self.turn = self.turn.saturating_add(1);
+            if self.turn == 3 {
+                return Err(io::ErrorKind::BrokenPipe.into());
+            }
+            Ok(self.turn != 2)
+        }
+    }
+
+    impl Read for Choppy {
+        fn read(&mut self, buf: &mut [u8]) -> io::Result<usize> {
+            if !self.count()? || buf.is_empty() {
+                return Ok(0);
+            }
+            buf[0] = b'a';
+            Ok(1)
+        }
+    }
+
+    impl Write for Choppy {
+        fn write(&mut self, buf: &[u8]) -> io::Result<usize> {
+            if !self.count()? || buf.is_empty() {
+                return Ok(0);
+            }
+            self.got.push(buf[0])?;
+            Ok(1)
+        }
+
+        fn flush(&mut self) -> io::Result<()> {
+            Ok(())
+        }
+    }
+
+    #[test]
+    fn each_error_is_a_fault(rt: HostRuntime) -> Result<(), Fail> {
+        let mut source = StdSource::new(Choppy {
+            turn: 0,
+            got: Vec::new(rt.alloc()),
+        });
+        let mut buf = [0u8; 2];
+        for (want, faults) in [(Ok(1), 0), (Ok(0), 0), (Err(Failed), 1), (Ok(1), 1)] {
+            assert_eq!(rt; source.read(&mut buf), want);
+            assert_eq!(rt; source.faults, faults);
+        }
+        assert_eq!(rt; buf, [b'a', 0]);
+
+        let mut sink = StdSink::new(Choppy {
+            turn: 0,
+            got: Vec::new(rt.alloc()),
+        });
+        let failed = Err(SinkFailed::Failed);
+        for (want, faults) in [(failed, 1), (failed, 2), (Ok(()), 2)] {
+            assert_eq!(rt; write_all(&mut sink, b"xyz"), want);
+            assert_eq!(rt; sink.faults, faults);
+        }
+        assert_eq!(rt; sink.writer.got.as_slice(), b"xxyz".as_slice());
+        Ok(())
     }
 }

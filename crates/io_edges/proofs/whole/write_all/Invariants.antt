@@ -6,7 +6,7 @@ use Rattle.io_edges.proofs.whole.write_all.Given as goal
 abbrev pub invariant-loop-rest : goal.invariant-loop-rest
 invariant-loop-rest g l =
     Goes (g.K.Sink.written l.fn.sink) (g.K.Sink.written l.sink) l.bytes l.rest
-      × (g.K.Sink.faults l.sink ≡ g.K.Sink.faults l.fn.sink)
+    × (g.K.Sink.faults l.sink ≡ g.K.Sink.faults l.fn.sink)
 
 abbrev pub decreases-loop-rest : goal.decreases-loop-rest
 decreases-loop-rest g l = length l.rest
