@@ -23,30 +23,31 @@ pub goes_all : (before after : Option (List ℕ)) (coming : List ℕ) →
     Goes before after coming [] → after ≡ append_known before coming
 goes_all before after coming goes = sym (append_known-nil after) ∙ goes
 
--- one way after another
-pub goes_goes : (before between after : Option (List ℕ)) (coming coming_then coming_now : List ℕ) →
-    Goes before between coming coming_then → Goes between after coming_then coming_now → Goes before after coming coming_now
-goes_goes before between after coming coming_then coming_now first second = second ∙ first
-
 -- what goes may stop
-pub stops_here : (before after : Option (List ℕ)) (coming coming_now : List ℕ) →
+pub stops_going : (before after : Option (List ℕ)) (coming coming_now : List ℕ) →
     Goes before after coming coming_now → Stops before after coming
-stops_here before after coming coming_now goes = record { unwritten = coming_now; goes = goes }
+stops_going before after coming coming_now goes = record { unwritten = coming_now; goes = goes }
 
 -- it stopped before it went
 pub stops_same : (known : Option (List ℕ)) (coming : List ℕ) → Stops known known coming
 stops_same known coming = record { unwritten = coming; goes = refl }
 
--- it went, and then stopped
-pub goes_stops : (before between after : Option (List ℕ)) (coming coming_then : List ℕ) →
-    Goes before between coming coming_then → Stops between after coming_then → Stops before after coming
-goes_stops before between after coming coming_then goes stops = record { unwritten = stops.unwritten; goes = stops.goes ∙ goes }
-
 -- it stopped within a piece, behind which more was to come
-pub stops_on : {before after : Option (List ℕ)} {piece : List ℕ} (more : List ℕ) →
+pub stops_within : {before after : Option (List ℕ)} {piece : List ℕ} (more : List ℕ) →
     Stops before after piece → Stops before after (piece ++ more)
-stops_on {before = before} {after = after} {piece = piece} more stops = record {
+stops_within {before = before} {after = after} {piece = piece} more stops = record {
   unwritten = stops.unwritten ++ more;
   goes = sym (append_known-append after stops.unwritten more)
       ∙ (ap (λ known. append_known known more) stops.goes ∙ append_known-append before piece more);
 }
+
+-- it went, and then stopped
+pub stops_gone : (before between after : Option (List ℕ)) (coming coming_then : List ℕ) →
+    Goes before between coming coming_then → Stops between after coming_then → Stops before after coming
+stops_gone before between after coming coming_then goes stops = record { unwritten = stops.unwritten; goes = stops.goes ∙ goes }
+
+-- it stopped behind a piece that was written
+pub stops_behind : (before between after : Option (List ℕ)) (piece coming : List ℕ) →
+    between ≡ append_known before piece → Stops between after coming → Stops before after (piece ++ coming)
+stops_behind before between after piece coming written stops =
+    stops_gone before between after (piece ++ coming) coming (goes_on before between piece coming written) stops
