@@ -1,5 +1,5 @@
 use Rattle.std.proofs.Common.{◌≡◌, ℕ, List, [], ◌++◌, Option, None, Some, refl, ap, append_assoc, append-nil, sym, ◌∙◌}
-use Rattle.std.specs.Io.KnownBytes.{append_known}
+use Rattle.std.specs.Io.KnownBytes.{append_known, prepend_known}
 use Rattle.io_edges.specs.Telling.{Goes, Stops}
 
 -- no bytes more
@@ -13,41 +13,59 @@ pub append_known-append : (known : Option (List ℕ)) (front rest : List ℕ) �
 append_known-append None front rest = refl
 append_known-append (Some bytes) front rest = ap Some (append_assoc bytes front rest)
 
--- a piece was written, and more is to come
-pub goes_on : (before after : Option (List ℕ)) (piece more : List ℕ) →
+-- nothing was written
+pub goes_same : (known : Option (List ℕ)) (coming : List ℕ) → Goes known known coming coming
+goes_same known coming = record { whole = refl }
+
+-- a piece was written, behind which more is to come
+pub goes_on : {before after : Option (List ℕ)} (piece more : List ℕ) →
     after ≡ append_known before piece → Goes before after (piece ++ more) more
-goes_on before after piece more written = ap (λ known. append_known known more) written ∙ append_known-append before piece more
+goes_on {before = before} piece more written =
+    record { whole = ap (λ known. append_known known more) written ∙ append_known-append before piece more }
+
+-- one way after another
+pub goes_further : {before between after : Option (List ℕ)} {coming coming_then coming_now : List ℕ} →
+    Goes before between coming coming_then → Goes between after coming_then coming_now → Goes before after coming coming_now
+goes_further first second = record { whole = second.whole ∙ first.whole }
 
 -- all that was to come was written
-pub goes_all : (before after : Option (List ℕ)) (coming : List ℕ) →
+pub goes_all : {before after : Option (List ℕ)} {coming : List ℕ} →
     Goes before after coming [] → after ≡ append_known before coming
-goes_all before after coming goes = sym (append_known-nil after) ∙ goes
+goes_all {after = after} goes = sym (append_known-nil after) ∙ goes.whole
 
 -- what goes may stop
-pub stops_going : (before after : Option (List ℕ)) (coming coming_now : List ℕ) →
+pub stops_going : {before after : Option (List ℕ)} {coming coming_now : List ℕ} →
     Goes before after coming coming_now → Stops before after coming
-stops_going before after coming coming_now goes = record { unwritten = coming_now; goes = goes }
+stops_going {coming_now = coming_now} goes = record { unwritten = coming_now; goes = goes }
 
 -- it stopped before it went
 pub stops_same : (known : Option (List ℕ)) (coming : List ℕ) → Stops known known coming
-stops_same known coming = record { unwritten = coming; goes = refl }
+stops_same known coming = record { unwritten = coming; goes = goes_same known coming }
 
 -- it stopped within a piece, behind which more was to come
 pub stops_within : {before after : Option (List ℕ)} {piece : List ℕ} (more : List ℕ) →
     Stops before after piece → Stops before after (piece ++ more)
 stops_within {before = before} {after = after} {piece = piece} more stops = record {
-  unwritten = stops.unwritten ++ more;
-  goes = sym (append_known-append after stops.unwritten more)
-      ∙ (ap (λ known. append_known known more) stops.goes ∙ append_known-append before piece more);
-}
+    unwritten = stops.unwritten ++ more;
+    goes = record {
+        whole = sym (append_known-append after stops.unwritten more)
+          ∙ (ap (λ known. append_known known more) stops.goes.whole ∙ append_known-append before piece more)
+      }
+  }
 
 -- it went, and then stopped
-pub stops_gone : (before between after : Option (List ℕ)) (coming coming_then : List ℕ) →
+pub stops_further : {before between after : Option (List ℕ)} {coming coming_then : List ℕ} →
     Goes before between coming coming_then → Stops between after coming_then → Stops before after coming
-stops_gone before between after coming coming_then goes stops = record { unwritten = stops.unwritten; goes = stops.goes ∙ goes }
+stops_further goes stops = record { unwritten = stops.unwritten; goes = goes_further goes stops.goes }
 
--- it stopped behind a piece that was written
-pub stops_behind : (before between after : Option (List ℕ)) (piece coming : List ℕ) →
-    between ≡ append_known before piece → Stops between after coming → Stops before after (piece ++ coming)
-stops_behind before between after piece coming written stops =
-    stops_gone before between after (piece ++ coming) coming (goes_on before between piece coming written) stops
+-- what a source that tells its bytes has left behind those that were taken
+pub record Rest (left : Option (List ℕ)) (bytes taken : List ℕ) : Type 0 where
+  pub rest : List ℕ
+  pub left_is : left ≡ Some rest
+  pub bytes_are : bytes ≡ taken ++ rest
+
+-- a source that tells its bytes goes on telling them
+pub rest_of : {before after : Option (List ℕ)} {taken bytes : List ℕ} →
+    before ≡ prepend_known taken after → before ≡ Some bytes → Rest after bytes taken
+rest_of {after = None} read told = absurd (cc (sym told ∙ read))
+rest_of {after = Some rest} read told = record { rest = rest; left_is = refl; bytes_are = cc (sym told ∙ read) }
