@@ -17,11 +17,13 @@ append_known-append (Some bytes) front rest = ap Some (append_assoc bytes front 
 pub goes_same : (known : Option (List ℕ)) (coming : List ℕ) → Goes known known coming coming
 goes_same known coming = record { whole = refl }
 
--- a piece was written, behind which more is to come
-pub goes_on : {before after : Option (List ℕ)} (piece more : List ℕ) →
-    after ≡ append_known before piece → Goes before after (piece ++ more) more
-goes_on {before = before} piece more written =
-    record { whole = ap (λ known. append_known known more) written ∙ append_known-append before piece more }
+-- a piece of what was to come was written
+pub goes_on : {before after : Option (List ℕ)} {coming coming_now : List ℕ} (piece : List ℕ) →
+    coming ≡ piece ++ coming_now → after ≡ append_known before piece → Goes before after coming coming_now
+goes_on {before = before} {coming_now = coming_now} piece comes written = record {
+  whole = ap (λ known. append_known known coming_now) written
+      ∙ (append_known-append before piece coming_now ∙ ap (λ bytes. append_known before bytes) (sym comes));
+}
 
 -- one way after another
 pub goes_further : {before between after : Option (List ℕ)} {coming coming_then coming_now : List ℕ} →
@@ -42,16 +44,17 @@ stops_going {coming_now = coming_now} goes = record { unwritten = coming_now; go
 pub stops_same : (known : Option (List ℕ)) (coming : List ℕ) → Stops known known coming
 stops_same known coming = record { unwritten = coming; goes = goes_same known coming }
 
--- it stopped within a piece, behind which more was to come
-pub stops_within : {before after : Option (List ℕ)} {piece : List ℕ} (more : List ℕ) →
-    Stops before after piece → Stops before after (piece ++ more)
-stops_within {before = before} {after = after} {piece = piece} more stops = record {
-    unwritten = stops.unwritten ++ more;
-    goes = record {
-        whole = sym (append_known-append after stops.unwritten more)
-          ∙ (ap (λ known. append_known known more) stops.goes.whole ∙ append_known-append before piece more)
-      }
-  }
+-- it stopped within a piece of what was to come
+pub stops_within : {before after : Option (List ℕ)} {piece coming : List ℕ} (more : List ℕ) →
+    coming ≡ piece ++ more → Stops before after piece → Stops before after coming
+stops_within {before = before} {after = after} {piece = piece} more comes stops = record {
+  unwritten = stops.unwritten ++ more;
+  goes = record {
+    whole = sym (append_known-append after stops.unwritten more)
+        ∙ (ap (λ known. append_known known more) stops.goes.whole
+        ∙ (append_known-append before piece more ∙ ap (λ bytes. append_known before bytes) (sym comes)));
+  };
+}
 
 -- it went, and then stopped
 pub stops_further : {before between after : Option (List ℕ)} {coming coming_then : List ℕ} →
