@@ -94,6 +94,7 @@ impl<W: Write + Drop> Sink for StdSink<W> {
 mod tests {
     use super::*;
     use crate::write_all;
+    use std::alloc::Global;
     use std::io;
     use std::test::Fail;
 
@@ -138,29 +139,38 @@ mod tests {
         }
     }
 
+    fn new_stream(alloc: Global) -> Choppy {
+        Choppy {
+            turn: 0,
+            got: Vec::new(alloc),
+        }
+    }
+
     #[test]
     fn each_error_is_a_fault(rt: HostRuntime) -> Result<(), Fail> {
-        let mut source = StdSource::new(Choppy {
-            turn: 0,
-            got: Vec::new(rt.alloc()),
-        });
+        let mut source = StdSource::new(new_stream(rt.alloc()));
         let mut buf = [0u8; 2];
-        for (want, faults) in [(Ok(1), 0), (Ok(0), 0), (Err(Failed), 1), (Ok(1), 1)] {
-            assert_eq!(rt; source.read(&mut buf), want);
-            assert_eq!(rt; source.faults, faults);
-        }
-        assert_eq!(rt; buf, [b'a', 0]);
+        let counts = [
+            source.read(&mut buf),
+            source.read(&mut buf),
+            source.read(&mut buf),
+            source.read(&mut buf),
+        ];
+        assert_eq!(rt; counts, [Ok(1), Ok(0), Err(Failed), Ok(1)]);
+        assert_eq!(rt; (source.faults, buf), (1, [b'a', 0]));
 
-        let mut sink = StdSink::new(Choppy {
-            turn: 0,
-            got: Vec::new(rt.alloc()),
-        });
+        let mut sink = StdSink::new(new_stream(rt.alloc()));
+        let outcomes = [
+            write_all(&mut sink, b"xyz"),
+            write_all(&mut sink, b"xyz"),
+            write_all(&mut sink, b"xyz"),
+        ];
         let failed = Err(SinkFailed::Failed);
-        for (want, faults) in [(failed, 1), (failed, 2), (Ok(()), 2)] {
-            assert_eq!(rt; write_all(&mut sink, b"xyz"), want);
-            assert_eq!(rt; sink.faults, faults);
-        }
-        assert_eq!(rt; sink.writer.got.as_slice(), b"xxyz".as_slice());
+        assert_eq!(rt; outcomes, [failed, failed, Ok(())]);
+        assert_eq!(rt;
+            (sink.faults, sink.writer.got.as_slice()),
+            (2, b"xxyz".as_slice())
+        );
         Ok(())
     }
 }
