@@ -1,6 +1,5 @@
-use Rattle.std.specs.Prelude.{ℕ, List, ◌++◌, length, take, drop, min, Result, Ok, Err, if◌then◌else◌}
+use Rattle.std.specs.Prelude.{ℕ, List, ◌++◌, length, take, drop, if◌then◌else◌}
 use Rattle.io_edges.specs.Calls.{Calls, fails_next, after_call, no_calls}
-use Rattle.io_edges.specs.declared.source.Failed.{Failed}
 
 -- a source over memory: the bytes left, and its calls
 pub record Reading : Type 0 where

@@ -123,6 +123,11 @@ mod tests {
             buf[0] = b'a';
             Ok(1)
         }
+
+        // Nobody calls this. It spares the proof of the trait's own body.
+        fn read_exact(&mut self, _buf: &mut [u8]) -> io::Result<()> {
+            Err(io::ErrorKind::Unsupported.into())
+        }
     }
 
     impl Write for Choppy {
@@ -132,6 +137,11 @@ mod tests {
             }
             self.got.push(buf[0])?;
             Ok(1)
+        }
+
+        // As `read_exact`.
+        fn write_all(&mut self, _buf: &[u8]) -> io::Result<()> {
+            Err(io::ErrorKind::Unsupported.into())
         }
 
         fn flush(&mut self) -> io::Result<()> {
