@@ -1,8 +1,9 @@
 //! The edges to the outside: where bytes come from, where they go to, and what a program ends with.
 //!
 //! A [`Source`] is read and a [`Sink`] is written. Contracts see how many faults each has had, so
-//! that a program which reports a fault can be held to it. There are forms over memory for tests
-//! and examples, with and without calls that fail, and forms over the standard streams.
+//! that a program which reports a fault can be held to it. A count of faults stays at 2^64 - 1, its
+//! last value: a fault may come there without a rise. There are forms over memory for tests and
+//! examples, with and without calls that fail, and forms over the streams of the system.
 #![tactic(auto)]
 
 mod count;

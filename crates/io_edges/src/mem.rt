@@ -1,9 +1,9 @@
 //! Streams over memory, of which given calls fail.
 
-ghost use Rattle.std.specs.Prelude.{◌≡◌, ◌≢◌, ◌<◌, ◌≤◌, ◌++◌, ◌↔◌, ℕ, List, Option, Some, Ok, Err, false, true, [], length, drop, min, if◌then◌else◌, OnOk, IfOk, OnErr, IsErr, IsErrOf};
+ghost use Rattle.std.specs.Prelude.{◌≡◌, ◌≢◌, ◌↔◌, Some, true, length, min, if◌then◌else◌, IfOk, IsErr, IsErrOf};
 ghost use Rattle.io_edges.specs.Calls.{fails_next};
-ghost use Rattle.io_edges.specs.Reading.{Reading, unread, filled, after_read};
-ghost use Rattle.io_edges.specs.Writing.{Writing, unwritten, after_write};
+ghost use Rattle.io_edges.specs.Reading.{unread, filled, after_read};
+ghost use Rattle.io_edges.specs.Writing.{unwritten, after_write};
 
 use crate::plan::Plan;
 use crate::{Failed, PlainSink, PlainSource, Sink, SinkFailed, Source};

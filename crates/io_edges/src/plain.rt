@@ -1,6 +1,6 @@
 //! Streams over memory that never fail.
 
-ghost use Rattle.std.specs.Prelude.{◌≡◌, ◌<◌, ◌≤◌, ◌++◌, ℕ, List, Option, Some, Ok, [], length, drop, min, OnOk, IfOk, OnErr, IsErrOf};
+ghost use Rattle.std.specs.Prelude.{◌≡◌, ◌++◌, [], Some, length, drop, min, IfOk, OnOk, OnErr};
 ghost use Rattle.io_edges.specs.Reading.{filled};
 
 use crate::{Failed, Sink, SinkFailed, Source};

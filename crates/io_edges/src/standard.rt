@@ -1,6 +1,6 @@
 //! Streams over those of the system. Nothing is known of their bytes.
 
-ghost use Rattle.std.specs.Prelude.{◌≡◌, ◌<◌, ◌≤◌, ℕ, List, Option, None};
+ghost use Rattle.std.specs.Prelude.{◌≡◌, None};
 
 use crate::count::raise;
 use crate::{Failed, Sink, SinkFailed, Source};
