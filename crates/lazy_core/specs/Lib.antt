@@ -1,3 +1,5 @@
 pub mod AppendState
 pub mod Early
 pub mod Happens
+pub mod Ledger
+pub mod WorldView

@@ -3,9 +3,13 @@
 #![tactic(auto)]
 
 mod append_client;
+
 mod ledger;
 mod sending;
 mod seq_node;
+mod world;
 
 pub use append_client::{AppendClient, AppendState};
 pub use seq_node::SeqNode;
+pub use ledger::WEIGHT_LIMIT;
+pub use world::{MESSAGES_LIMIT, World};

@@ -71,9 +71,13 @@ abbrev pub delivered : WorldState → Option Envelope → WorldState
 delivered w None = w
 delivered w (Some envelope) = received w envelope (node_of w.shape envelope.to)
 
--- message k, which is counted from 1
+-- message k of a list, counted from 1
+abbrev pub envelope_at : List Envelope → ℕ → Option Envelope
+envelope_at sent k = if k == 0 then None else slice_get sent (k - 1)
+
+-- message k of a world
 abbrev pub message_at : WorldState → ℕ → Option Envelope
-message_at w k = if k == 0 then None else slice_get w.sent (k - 1)
+message_at w k = envelope_at w.sent k
 
 -- the world after an event that isn't refused
 abbrev pub after : WorldState → WorldEvent → WorldState
