@@ -1,2 +1,5 @@
 pub mod Identity
 pub mod Marks
+pub mod History
+pub mod Line
+pub mod Lawful
