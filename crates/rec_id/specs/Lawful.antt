@@ -15,17 +15,19 @@ use Rattle.rec_id.specs.declared.event.Event.TheVariants.{Acked, Rejected, Begin
 pub record UniqueAt (line : List Entry) (p q : ℕ) : Type 0 where
   pub differ : (id : Identity) → p < q → id_at line p ≡ Some id → id_at line q ≢ Some id
 
--- a TrimAsk whose floor is above the place stands in the history
+-- a trim whose floor is above the place was asked for
 pub record IsTrimAsked (history : List Event) (place : ℕ) : Type 0 where
   pub index : ℕ
   pub trim : Read
   pub floor : ℕ
-  pub asked : told_at asked_trim history index ≡ Some (trim, floor)
+  pub asks : told_at asked_trim history index ≡ Some (trim, floor)
   pub above : place < floor
 
 -- (b) the entry at a place was invoked, with the bytes that it has; a gone one was asked to go
 pub record InvokedAt (history : List Event) (line : List Entry) (place : ℕ) : Type 0 where
-  pub kept : (id : Identity) (bytes : List ℕ) → slice_get line place ≡ Some (Kept id bytes) → IsInvokedWith history id bytes
+  pub kept :
+      (id : Identity) (bytes : List ℕ) → slice_get line place ≡ Some (Kept id bytes) →
+      IsInvokedWith history id bytes
   pub noop : (id : Identity) → slice_get line place ≡ Some (Noop id) → IsInvoked history id
   pub gone : (id : Identity) → slice_get line place ≡ Some (Gone id) → IsInvoked history id
   pub trimmed : (id : Identity) → slice_get line place ≡ Some (Gone id) → IsTrimAsked history place
@@ -37,11 +39,15 @@ pub record FinishedAt (history : List Event) (line : List Entry) (j : ℕ) : Typ
   pub invoked_before : (id : Identity) → told_at finished_id history j ≡ Some id → SomeBefore invoked_id history j id
   pub finished_once : (id : Identity) → told_at finished_id history j ≡ Some id → NoneBefore finished_id history j id
   pub acked : (id : Identity) → slice_get history j ≡ Some (Acked id) → IsAppended line id
-  pub rejected : (id : Identity) (place : ℕ) → slice_get history j ≡ Some (Rejected id place) → slice_get line place ≡ Some (Noop id)
+  pub rejected :
+      (id : Identity) (place : ℕ) → slice_get history j ≡ Some (Rejected id place) →
+      slice_get line place ≡ Some (Noop id)
 
 -- (d) where a is finished at i, b is invoked at j, later, and b stands in the line, a stands in front of it
 pub record OrderedAt (history : List Event) (line : List Entry) (i j : ℕ) : Type 0 where
-  pub in_front : (a b : Identity) (place : ℕ) → i < j → told_at finished_id history i ≡ Some a → told_at invoked_id history j ≡ Some b → id_at line place ≡ Some b → StandsBelow line a place
+  pub in_front :
+      (a b : Identity) (place : ℕ) → i < j → told_at finished_id history i ≡ Some a →
+      told_at invoked_id history j ≡ Some b → id_at line place ≡ Some b → StandsBelow line a place
 
 -- the read that ends at index j has begun, once, and has not ended before
 pub record EndsRead (history : List Event) (j : ℕ) (read : Read) : Type 0 where
@@ -63,39 +69,61 @@ pub record IsSlice (history : List Event) (line : List Entry) (j : ℕ) (read : 
 
 -- (e) the Answer at an index is a slice of the line, and the identities of a Seen there are those of one
 pub record SlicesAt (history : List Event) (line : List Entry) (j : ℕ) : Type 0 where
-  pub answer : (client read from : ℕ) (entries : List Entry) (tail : Option ℕ) → slice_get history j ≡ Some (Answer client read from entries tail) → IsSlice history line j (record { client = client; number = read }) from entries tail
-  pub seen : (client from : ℕ) (ids : List Identity) → slice_get history j ≡ Some (Seen client from ids) → (k : ℕ) (id : Identity) → slice_get ids k ≡ Some id → id_at line (from + k) ≡ Some id
+  pub answer :
+      (client read from : ℕ) (entries : List Entry) (tail : Option ℕ) →
+      slice_get history j ≡ Some (Answer client read from entries tail) →
+      IsSlice history line j (record { client = client; number = read }) from entries tail
+  pub seen :
+      (client from : ℕ) (ids : List Identity) → slice_get history j ≡ Some (Seen client from ids) →
+      (k : ℕ) (id : Identity) → slice_get ids k ≡ Some id → id_at line (from + k) ≡ Some id
 
 -- (f) where a is finished at i, and a read whose answer is forced begins at b, later, a stands below the answer's tail
 pub record CoveredAt (history : List Event) (line : List Entry) (i b : ℕ) : Type 0 where
-  pub below : (a : Identity) (read : Read) (tail j : ℕ) → i < b → b < j → told_at finished_id history i ≡ Some a → told_at begun_read history b ≡ Some read → told_at forced_tail history j ≡ Some (read, tail) → StandsBelow line a tail
+  pub below :
+      (a : Identity) (read : Read) (tail j : ℕ) → i < b → b < j → told_at finished_id history i ≡ Some a →
+      told_at begun_read history b ≡ Some read → told_at forced_tail history j ≡ Some (read, tail) →
+      StandsBelow line a tail
 
 -- (g) where an order was shown at i up to some reach, and the read that is answered at j, by force, begins after i, the
 -- answer's tail is no less
 pub record TailsNeverFallAt (history : List Event) (i j : ℕ) : Type 0 where
-  pub no_less : (reach b tail : ℕ) (read : Read) → i < b → b < j → told_at shown_reach history i ≡ Some reach → told_at begun_read history b ≡ Some read → told_at forced_tail history j ≡ Some (read, tail) → reach ≤ tail
+  pub no_less :
+      (reach b tail : ℕ) (read : Read) → i < b → b < j → told_at shown_reach history i ≡ Some reach →
+      told_at begun_read history b ≡ Some read → told_at forced_tail history j ≡ Some (read, tail) → reach ≤ tail
 
 -- (h) where something reached up to some place at i, and b is invoked at j, later, b does not stand below that place
 pub record BehindReadAt (history : List Event) (line : List Entry) (i j : ℕ) : Type 0 where
-  pub behind : (reach place : ℕ) (b : Identity) → i < j → told_at told_reach history i ≡ Some reach → told_at invoked_id history j ≡ Some b → id_at line place ≡ Some b → reach ≤ place
+  pub behind :
+      (reach place : ℕ) (b : Identity) → i < j → told_at told_reach history i ≡ Some reach →
+      told_at invoked_id history j ≡ Some b → id_at line place ≡ Some b → reach ≤ place
 
--- the read that ends at index j asked for places below the floor, and a trim of at least this floor was asked before
-pub record IsTrimmedRead (history : List Event) (j : ℕ) (read : Read) (floor : ℕ) : Type 0 where
-  pub ends : EndsRead history j read
-  pub below : asked_from ends.ask < floor
+-- a trim of at least this floor was asked for before index j
+pub record IsTrimAskedBefore (history : List Event) (j floor : ℕ) : Type 0 where
   pub index : ℕ
   pub before : index < j
   pub trim : Read
   pub asked_floor : ℕ
-  pub asked : told_at asked_trim history index ≡ Some (trim, asked_floor)
+  pub asks : told_at asked_trim history index ≡ Some (trim, asked_floor)
   pub at_least : floor ≤ asked_floor
+
+-- the read that ends at index j wanted places below the floor, and a trim of them was asked for before
+pub record IsTrimmedRead (history : List Event) (j : ℕ) (read : Read) (floor : ℕ) : Type 0 where
+  pub ends : EndsRead history j read
+  pub below : asked_from ends.ask < floor
+  pub asked : IsTrimAskedBefore history j floor
 
 -- (i) the read of a Trimmed at an index asked for what a trim was asked for; a TrimDone there was asked for, once, and
 -- is the first of its trim
 pub record TrimsAt (history : List Event) (j : ℕ) : Type 0 where
-  pub trimmed : (client read floor : ℕ) → slice_get history j ≡ Some (Trimmed client read floor) → IsTrimmedRead history j (record { client = client; number = read }) floor
-  pub asked : (client read floor : ℕ) → slice_get history j ≡ Some (TrimDone client read floor) → OneBefore asked_trim history j (record { client = client; number = read }, floor)
-  pub done_once : (client read floor : ℕ) → slice_get history j ≡ Some (TrimDone client read floor) → NoneBefore done_trim history j (record { client = client; number = read })
+  pub trimmed :
+      (client read floor : ℕ) → slice_get history j ≡ Some (Trimmed client read floor) →
+      IsTrimmedRead history j (record { client = client; number = read }) floor
+  pub asked :
+      (client read floor : ℕ) → slice_get history j ≡ Some (TrimDone client read floor) →
+      OneBefore asked_trim history j (record { client = client; number = read }, floor)
+  pub done_once :
+      (client read floor : ℕ) → slice_get history j ≡ Some (TrimDone client read floor) →
+      NoneBefore done_trim history j (record { client = client; number = read })
 
 abbrev pub Unique : List Entry → Type 0
 Unique line = (p q : ℕ) → UniqueAt line p q

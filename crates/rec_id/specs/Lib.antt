@@ -3,3 +3,4 @@ pub mod Marks
 pub mod History
 pub mod Line
 pub mod Lawful
+pub mod Verdict

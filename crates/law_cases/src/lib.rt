@@ -1,0 +1,2 @@
+//! What the law says of short histories and lines.
+#![tactic(auto)]
