@@ -1,2 +1,5 @@
 pub mod Decide
 pub mod Forms
+pub mod Clauses
+pub mod ReadClauses
+pub mod Verdicts

@@ -154,12 +154,12 @@ Trims history = (j : ℕ) → TrimsAt history j
 
 -- the line is one that the log may have after this history of its clients
 pub record Lawful (history : List Event) (line : List Entry) : Type 0 where
-  pub unique : Unique line                          -- (a)
-  pub invoked : Invoked history line                -- (b)
-  pub finished : Finished history line              -- (c)
-  pub ordered : Ordered history line                -- (d)
-  pub slices : Slices history line                  -- (e)
-  pub covered : Covered history line                -- (f)
-  pub tails_never_fall : TailsNeverFall history     -- (g)
-  pub behind_read : BehindRead history line         -- (h)
-  pub trims : Trims history                         -- (i)
+  pub unique : Unique line  -- (a)
+  pub invoked : Invoked history line  -- (b)
+  pub finished : Finished history line  -- (c)
+  pub ordered : Ordered history line  -- (d)
+  pub slices : Slices history line  -- (e)
+  pub covered : Covered history line  -- (f)
+  pub tails_never_fall : TailsNeverFall history  -- (g)
+  pub behind_read : BehindRead history line  -- (h)
+  pub trims : Trims history  -- (i)
