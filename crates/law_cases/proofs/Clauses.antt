@@ -1,19 +1,18 @@
 -- The clauses (a) to (d) of the law are decided by tests.
-use Rattle.std.proofs.Common.{◌≡◌, ◌≢◌, ℕ, ◌+◌, ◌-◌, ◌<◌, ◌≤◌, min, Bool, true, false, not, ◌&&◌, ◌||◌, nat_lt, nat_le, ◌==◌, IsTrue, IsSome, is_some, Option, Some, None, List, [], ◌∷◌, length, slice_get, ◌⊎◌, inl, inr, refl, sym, ◌∙◌, ap, subst, arith}
+use Rattle.std.proofs.Common.{◌≡◌, ◌≢◌, ℕ, ◌<◌, Option, Some, None, List, length, slice_get, inl, inr, refl, sym, ◌∙◌, ap}
 use Rattle.std.specs.Prelude.{option_and_then, option_map}
 use Rattle.std.proofs.lemmas.Bool.{cases_lt}
 use Rattle.std.proofs.lemmas.Option.{slice_get_past, slice_get_within}
-use Rattle.law_cases.proofs.Decide.{Dec, dec_yes, dec_no, dec_like, dec_not, dec_and, dec_implies, dec_nat, dec_lt, dec_le, dec_if_some, dec_and_some, dec_told, dec_below, dec_all, dec_any, dec_each, dec_true}
-use Rattle.law_cases.proofs.Forms.{dec_id, dec_read, dec_trim, dec_bytes, dec_entry, dec_if_is, kept_of, kept_is, noop_of, noop_is, gone_of, gone_is, invoke_of, invoke_is, acked_of, acked_is, rejected_of, rejected_is, Answered, answer_of, answer_is, Shown, seen_of, seen_is, Floored, trimmed_of, trimmed_is, trim_done_of, trim_done_is}
+use Rattle.law_cases.proofs.Decide.{Dec, dec_no, dec_like, dec_not, dec_and, dec_implies, dec_nat, dec_lt, dec_if_some, dec_and_some, dec_told, dec_below, dec_any, dec_each}
+use Rattle.law_cases.proofs.Forms.{dec_id, dec_bytes, dec_entry, dec_if_is, kept_of, kept_is, noop_of, noop_is, gone_of, gone_is, invoke_of, acked_of, acked_is, rejected_of, rejected_is}
 use Rattle.rec_id.specs.Identity.{Identity}
-use Rattle.rec_id.specs.History.{Read, invoked_id, finished_id, begun_read, ended_read, forced_tail, asked_trim, done_trim, shown_reach, told_reach, asked_from, asked_to, is_tail, told_at, SomeBefore, NoneBefore, OneBefore, IsInvoked, IsInvokedWith}
-use Rattle.rec_id.specs.Line.{named_id, appended_id, id_at, IsAppended, StandsBelow, IsToldOf, IsToldAt}
-use Rattle.rec_id.specs.Lawful.{UniqueAt, InvokedAt, IsTrimAsked, FinishedAt, OrderedAt, EndsRead, IsSlice, SlicesAt, CoveredAt, TailsNeverFallAt, BehindReadAt, IsTrimAskedBefore, IsTrimmedRead, TrimsAt, Unique, Invoked, Finished, Ordered, Slices, Covered, TailsNeverFall, BehindRead, Trims}
+use Rattle.rec_id.specs.History.{Read, invoked_id, finished_id, asked_trim, told_at, SomeBefore, NoneBefore, OneBefore, IsInvoked, IsInvokedWith}
+use Rattle.rec_id.specs.Line.{named_id, appended_id, id_at, IsAppended, StandsBelow}
+use Rattle.rec_id.specs.Lawful.{UniqueAt, InvokedAt, IsTrimAsked, FinishedAt, OrderedAt, Unique, Invoked, Finished, Ordered}
 use Rattle.rec_id.specs.declared.entry.Entry.{Entry}
 use Rattle.rec_id.specs.declared.entry.Entry.TheVariants.{Kept, Noop, Gone}
-use Rattle.rec_id.specs.declared.event.Ask.{Ask}
 use Rattle.rec_id.specs.declared.event.Event.{Event}
-use Rattle.rec_id.specs.declared.event.Event.TheVariants.{Invoke, Acked, Rejected, Begin, Answer, Seen, TrimAsk, TrimDone, Trimmed}
+use Rattle.rec_id.specs.declared.event.Event.TheVariants.{Invoke, Acked, Rejected}
 
 -- past the end nothing is told
 
@@ -66,9 +65,12 @@ invoke_to a b xs ys h = let p = h.0 in let q = h.1 in cc
 pub invoke_from : (a b : Identity) (xs ys : List ℕ) → Invoke a xs ≡ Invoke b ys → (a ≡ b) × (xs ≡ ys)
 invoke_from a b xs ys e = (cc, cc)
 
+pub not_invoke : (event : Event) (id : Identity) (bytes : List ℕ) → invoke_of event ≡ None → event ≢ Invoke id bytes
+not_invoke event id bytes h e = let g : invoke_of event ≡ Some (id, bytes) = ap invoke_of e in cc
+
 abbrev pub dec_invoke : (event : Event) (id : Identity) (bytes : List ℕ) → Dec (event ≡ Invoke id bytes)
 dec_invoke (Invoke a xs) id bytes = dec_like (invoke_to a id xs bytes) (invoke_from a id xs bytes) (dec_and (dec_id a id) (dec_bytes xs bytes))
-dec_invoke _ id bytes = dec_no (λ e. cc)
+dec_invoke event id bytes = dec_no (not_invoke event id bytes refl)
 
 abbrev pub dec_is_invoked_with : (history : List Event) (id : Identity) (bytes : List ℕ) → Dec (IsInvokedWith history id bytes)
 dec_is_invoked_with history id bytes =

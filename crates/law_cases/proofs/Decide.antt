@@ -1,9 +1,9 @@
 -- A fact beside a test that decides it, so that facts on given lists are found by computing.
-use Rattle.std.proofs.Common.{◌≡◌, ◌≢◌, ℕ, zero, suc, ◌+◌, ◌<◌, ◌≤◌, Bool, true, false, not, ◌&&◌, ◌||◌, nat_lt, nat_le, ◌==◌, IsTrue, Option, Some, None, List, [], ◌∷◌, length, slice_get, ◌⊎◌, inl, inr, refl, sym, ◌∙◌, ap, subst, arith}
+use Rattle.std.proofs.Common.{◌≡◌, ◌≢◌, ℕ, zero, suc, ◌<◌, ◌≤◌, Bool, true, false, not, ◌&&◌, ◌||◌, nat_lt, nat_le, ◌==◌, IsTrue, Option, Some, None, List, length, slice_get, inl, inr, refl, ap, subst, arith}
 use Rattle.std.specs.Bool.{Decides}
 use Rattle.std.proofs.lemmas.Bool.{cases_lt}
 use Rattle.std.proofs.lemmas.Option.{slice_get_past}
-use Rattle.std.proofs.lemmas.Bool.Decides.{Decides-not, Decides-and, Decides-or, Decides-eqb, Decides-ltb, not_from_Decides, Decides-below_and, Decides-below_or, nat_tests}
+use Rattle.std.proofs.lemmas.Bool.Decides.{Decides-not, Decides-and, Decides-eqb, Decides-ltb, Decides-below_and, Decides-below_or, nat_tests}
 
 pub record Dec (P : Type 0) : Type 0 where
   pub test : Bool
@@ -121,3 +121,9 @@ dec_each xs P rest d = dec_all (length xs) P (λ i h. rest i (slice_get_past xs 
 
 abbrev pub dec_true : (b : Bool) → Dec (IsTrue b)
 dec_true b = record { test = b; decides = (λ e. e, λ e. e) }
+
+pub absent : {A : Type 0} (o : Option A) (x : A) → o ≡ None → o ≡ Some x → ⊥
+absent o x e h = cc
+
+pub not_absent : {A : Type 0} (x : A) → Some x ≢ None
+not_absent x e = cc

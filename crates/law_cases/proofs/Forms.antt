@@ -1,14 +1,13 @@
 -- Deciding equality of the plain data, and what an entry or an event is.
-use Rattle.std.proofs.Common.{◌≡◌, ◌≢◌, ℕ, Bool, true, false, Option, Some, None, List, [], ◌∷◌, slice_get, refl, sym, ◌∙◌, ap, subst}
+use Rattle.std.proofs.Common.{◌≡◌, ◌≢◌, ℕ, Bool, true, false, Option, Some, None, List, [], ◌∷◌, refl, sym, ◌∙◌, ap, subst}
 use Rattle.std.specs.Prelude.{option_and_then}
-use Rattle.law_cases.proofs.Decide.{Dec, dec_yes, dec_no, dec_like, dec_and, dec_nat, dec_if_some, dec_and_some}
+use Rattle.law_cases.proofs.Decide.{Dec, dec_yes, dec_no, dec_like, dec_and, dec_nat, dec_if_some}
 use Rattle.rec_id.specs.Identity.{Identity}
-use Rattle.rec_id.specs.History.{Read, told_at}
+use Rattle.rec_id.specs.History.{Read}
 use Rattle.rec_id.specs.declared.entry.Entry.{Entry}
 use Rattle.rec_id.specs.declared.entry.Entry.TheVariants.{Kept, Noop, Gone}
-use Rattle.rec_id.specs.declared.event.Ask.{Ask}
 use Rattle.rec_id.specs.declared.event.Event.{Event}
-use Rattle.rec_id.specs.declared.event.Event.TheVariants.{Invoke, Acked, Rejected, Begin, Answer, Seen, TrimAsk, TrimDone, Trimmed}
+use Rattle.rec_id.specs.declared.event.Event.TheVariants.{Invoke, Acked, Rejected, Answer, Seen, TrimDone, Trimmed}
 
 pub id_same : (a b : Identity) → a.client ≡ b.client → a.number ≡ b.number → a ≡ b
 id_same a b p q = ap (λ (c : ℕ). let x : Identity = record { client = c; number = a.number } in x) p ∙ ap (λ (n : ℕ). let x : Identity = record { client = b.client; number = n } in x) q
@@ -34,10 +33,13 @@ cons_same x y xs ys p q = cc
 pub cons_parts : (x y : ℕ) (xs ys : List ℕ) → x ∷ xs ≡ y ∷ ys → (x ≡ y) × (xs ≡ ys)
 cons_parts x y xs ys e = (cc, cc)
 
+pub nil_apart : (y : ℕ) (ys : List ℕ) → [] ≢ y ∷ ys
+nil_apart y ys e = cc
+
 abbrev pub dec_bytes : (xs ys : List ℕ) → Dec (xs ≡ ys)
 dec_bytes [] [] = dec_yes refl
-dec_bytes [] (y ∷ ys) = dec_no (λ e. cc)
-dec_bytes (x ∷ xs) [] = dec_no (λ e. cc)
+dec_bytes [] (y ∷ ys) = dec_no (nil_apart y ys)
+dec_bytes (x ∷ xs) [] = dec_no (λ e. nil_apart x xs (sym e))
 dec_bytes (x ∷ xs) (y ∷ ys) = dec_like (λ h. cons_same x y xs ys h.0 h.1) (cons_parts x y xs ys) (dec_and (dec_nat x y) (dec_bytes xs ys))
 
 pub kept_same : (a b : Identity) (xs ys : List ℕ) → a ≡ b → xs ≡ ys → Kept a xs ≡ Kept b ys
@@ -52,11 +54,25 @@ noop_parts a b e = cc
 pub gone_parts : (a b : Identity) → Gone a ≡ Gone b → a ≡ b
 gone_parts a b e = cc
 
+abbrev pub same_kind : Entry → Entry → Bool
+same_kind (Kept a xs) (Kept b ys) = true
+same_kind (Noop a) (Noop b) = true
+same_kind (Gone a) (Gone b) = true
+same_kind _ _ = false
+
+same_kind_refl : (e : Entry) → same_kind e e ≡ true
+same_kind_refl (Kept a xs) = refl
+same_kind_refl (Noop a) = refl
+same_kind_refl (Gone a) = refl
+
+pub kinds_apart : (e f : Entry) → same_kind e f ≡ false → e ≢ f
+kinds_apart e f h g = let t : same_kind e f ≡ true = subst (λ (x : Entry). same_kind e x ≡ true) g (same_kind_refl e) in cc
+
 abbrev pub dec_entry : (x y : Entry) → Dec (x ≡ y)
 dec_entry (Kept a xs) (Kept b ys) = dec_like (λ h. kept_same a b xs ys h.0 h.1) (kept_parts a b xs ys) (dec_and (dec_id a b) (dec_bytes xs ys))
 dec_entry (Noop a) (Noop b) = dec_like (λ e. ap Noop e) (noop_parts a b) (dec_id a b)
 dec_entry (Gone a) (Gone b) = dec_like (λ e. ap Gone e) (gone_parts a b) (dec_id a b)
-dec_entry _ _ = dec_no (λ e. cc)
+dec_entry e f = dec_no (kinds_apart e f refl)
 
 -- a fact for what an option is, where it is of a form
 

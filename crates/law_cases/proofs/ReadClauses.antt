@@ -1,20 +1,18 @@
 -- The clauses (e) to (i) of the law are decided by tests.
-use Rattle.std.proofs.Common.{◌≡◌, ◌≢◌, ℕ, ◌+◌, ◌-◌, ◌<◌, ◌≤◌, min, Bool, true, false, not, ◌&&◌, ◌||◌, nat_lt, nat_le, ◌==◌, IsTrue, IsSome, is_some, Option, Some, None, List, [], ◌∷◌, length, slice_get, ◌⊎◌, inl, inr, refl, sym, ◌∙◌, ap, subst, arith}
-use Rattle.std.specs.Prelude.{option_and_then, option_map}
-use Rattle.std.proofs.lemmas.Bool.{cases_lt}
-use Rattle.std.proofs.lemmas.Option.{slice_get_past, slice_get_within}
-use Rattle.law_cases.proofs.Decide.{Dec, dec_yes, dec_no, dec_like, dec_not, dec_and, dec_implies, dec_nat, dec_lt, dec_le, dec_if_some, dec_and_some, dec_told, dec_below, dec_all, dec_any, dec_each, dec_true}
-use Rattle.law_cases.proofs.Forms.{dec_id, dec_read, dec_trim, dec_bytes, dec_entry, dec_if_is, kept_of, kept_is, noop_of, noop_is, gone_of, gone_is, invoke_of, invoke_is, acked_of, acked_is, rejected_of, rejected_is, Answered, answer_of, answer_is, Shown, seen_of, seen_is, Floored, trimmed_of, trimmed_is, trim_done_of, trim_done_is}
+use Rattle.std.proofs.Common.{◌≡◌, ℕ, ◌+◌, ◌-◌, ◌<◌, ◌≤◌, min, IsTrue, IsSome, is_some, Option, Some, None, List, length, slice_get, refl, ◌∙◌, ap, subst}
+use Rattle.std.specs.Prelude.{option_and_then}
+use Rattle.law_cases.proofs.Decide.{Dec, dec_yes, dec_no, dec_like, dec_and, dec_implies, dec_nat, dec_lt, dec_le, dec_if_some, dec_and_some, dec_any, dec_each, dec_true, absent, not_absent}
+use Rattle.law_cases.proofs.Forms.{dec_id, dec_read, dec_trim, dec_entry, dec_if_is, kept_of, Answered, answer_of, answer_is, Shown, seen_of, seen_is, Floored, trimmed_of, trimmed_is, trim_done_of, trim_done_is}
 use Rattle.rec_id.specs.Identity.{Identity}
-use Rattle.rec_id.specs.History.{Read, invoked_id, finished_id, begun_read, ended_read, forced_tail, asked_trim, done_trim, shown_reach, told_reach, asked_from, asked_to, is_tail, told_at, SomeBefore, NoneBefore, OneBefore, IsInvoked, IsInvokedWith}
-use Rattle.rec_id.specs.Line.{named_id, appended_id, id_at, IsAppended, StandsBelow, IsToldOf, IsToldAt}
-use Rattle.rec_id.specs.Lawful.{UniqueAt, InvokedAt, IsTrimAsked, FinishedAt, OrderedAt, EndsRead, IsSlice, SlicesAt, CoveredAt, TailsNeverFallAt, BehindReadAt, IsTrimAskedBefore, IsTrimmedRead, TrimsAt, Unique, Invoked, Finished, Ordered, Slices, Covered, TailsNeverFall, BehindRead, Trims}
+use Rattle.rec_id.specs.History.{Read, invoked_id, finished_id, begun_read, ended_read, forced_tail, asked_trim, done_trim, shown_reach, told_reach, asked_from, asked_to, is_tail, told_at, NoneBefore, OneBefore, IsInvokedWith}
+use Rattle.rec_id.specs.Line.{id_at, StandsBelow, IsToldOf, IsToldAt}
+use Rattle.rec_id.specs.Lawful.{EndsRead, IsSlice, SlicesAt, CoveredAt, TailsNeverFallAt, BehindReadAt, IsTrimAskedBefore, IsTrimmedRead, TrimsAt, Slices, Covered, TailsNeverFall, BehindRead, Trims}
 use Rattle.rec_id.specs.declared.entry.Entry.{Entry}
 use Rattle.rec_id.specs.declared.entry.Entry.TheVariants.{Kept, Noop, Gone}
 use Rattle.rec_id.specs.declared.event.Ask.{Ask}
 use Rattle.rec_id.specs.declared.event.Event.{Event}
-use Rattle.rec_id.specs.declared.event.Event.TheVariants.{Invoke, Acked, Rejected, Begin, Answer, Seen, TrimAsk, TrimDone, Trimmed}
-use Rattle.law_cases.proofs.Clauses.{told_none, told_within, id_none, dec_told_at, dec_id_at, dec_none_before, IsOne, dec_is_one, dec_one_before, dec_is_invoked_with, dec_stands_below}
+use Rattle.rec_id.specs.declared.event.Event.TheVariants.{Begin, Answer, Seen, TrimDone, Trimmed}
+use Rattle.law_cases.proofs.Clauses.{told_none, id_none, dec_id_at, dec_none_before, IsOne, dec_is_one, dec_one_before, dec_is_invoked_with, dec_stands_below}
 
 -- a read that ends
 
@@ -30,9 +28,12 @@ begins_from client number ask read R h =
     let same : h.0 ≡ ask = cc in
     (cc, (cc, subst R same h.2))
 
+pub no_begin : (o : Option Event) (read : Read) (R : Ask → Type 0) → option_and_then begun_read o ≡ None → ¬ BeginsWith o read R
+no_begin o read R h k = let g : option_and_then begun_read o ≡ Some read = ap (option_and_then begun_read) k.1 in cc
+
 abbrev pub dec_begins : (o : Option Event) (read : Read) (R : Ask → Type 0) → ((ask : Ask) → Dec (R ask)) → Dec (BeginsWith o read R)
 dec_begins (Some (Begin client number ask)) read R d = dec_like (begins_to client number ask read R) (begins_from client number ask read R) (dec_and (dec_nat client read.client) (dec_and (dec_nat number read.number) (d ask)))
-dec_begins _ read R d = dec_no (λ h. let e = h.1 in cc)
+dec_begins o read R d = dec_no (no_begin o read R refl)
 
 abbrev pub EndsAt : List Event → ℕ → Read → (Ask → Type 0) → ℕ → Type 0
 EndsAt history j read R i = IsOne begun_read history j read i × (NoneBefore ended_read history j read × BeginsWith (slice_get history i) read R)
@@ -58,11 +59,14 @@ gone_from history id other xs h =
     let same : h.0 ≡ xs = cc in
     (cc, subst (λ (bytes : List ℕ). IsInvokedWith history id bytes) same h.2)
 
+pub not_gone_told : (history : List Event) (id : Identity) (told : Entry) → kept_of told ≡ None → ¬ IsToldOf history (Gone id) told
+not_gone_told history id told h k = let g : kept_of told ≡ Some (id, k.0) = ap kept_of k.1 in cc
+
 abbrev pub dec_is_told_of : (history : List Event) (entry told : Entry) → Dec (IsToldOf history entry told)
 dec_is_told_of history (Kept id bytes) told = dec_entry told (Kept id bytes)
 dec_is_told_of history (Noop id) told = dec_entry told (Noop id)
 dec_is_told_of history (Gone id) (Kept other xs) = dec_like (gone_to history id other xs) (gone_from history id other xs) (dec_and (dec_id other id) (dec_is_invoked_with history id xs))
-dec_is_told_of history (Gone id) _ = dec_no (λ h. let e = h.1 in cc)
+dec_is_told_of history (Gone id) told = dec_no (not_gone_told history id told refl)
 
 abbrev pub dec_is_told_at : (history : List Event) (line : List Entry) (place : ℕ) (told : Entry) → Dec (IsToldAt history line place told)
 dec_is_told_at history line place told =
@@ -76,7 +80,7 @@ Has history line from entries tail ask =
 
 abbrev pub dec_is_none : (o : Option ℕ) → Dec (o ≡ None)
 dec_is_none None = dec_yes refl
-dec_is_none (Some t) = dec_no (λ e. cc)
+dec_is_none (Some t) = dec_no (not_absent t)
 
 abbrev pub dec_has : (history : List Event) (line : List Entry) (from : ℕ) (entries : List Entry) (tail : Option ℕ) (ask : Ask) → Dec (Has history line from entries tail ask)
 dec_has history line from entries tail ask =
@@ -85,7 +89,7 @@ dec_has history line from entries tail ask =
     (dec_and (dec_if_some tail (λ t. length entries ≡ min (asked_to ask) t - from) (λ t. dec_nat (length entries) (min (asked_to ask) t - from)))
     (dec_and (dec_if_some tail (λ t. t ≤ length line) (λ t. dec_le t (length line)))
     (dec_and (dec_implies (dec_is_none tail) (dec_nat (from + length entries) (asked_to ask)))
-    (dec_each entries (λ k. (entry : Entry) → slice_get entries k ≡ Some entry → IsToldAt history line (from + k) entry) (λ k e entry h. let g : None ≡ Some entry = sym e ∙ h in cc)
+    (dec_each entries (λ k. (entry : Entry) → slice_get entries k ≡ Some entry → IsToldAt history line (from + k) entry) (λ k e entry h. absurd (absent (slice_get entries k) entry e h))
     (λ k. dec_if_some (slice_get entries k) (λ entry. IsToldAt history line (from + k) entry) (λ entry. dec_is_told_at history line (from + k) entry)))))))
 
 abbrev pub dec_is_slice : (history : List Event) (line : List Entry) (j : ℕ) (read : Read) (from : ℕ) (entries : List Entry) (tail : Option ℕ) → Dec (IsSlice history line j read from entries tail)
@@ -104,7 +108,7 @@ dec_slices_at history line j =
     (λ x. dec_is_slice history line j (record { client = x.client; number = x.read }) x.from x.entries x.tail))
     (dec_if_is (slice_get history j) (λ (x : Shown). Seen x.client x.from x.ids) seen_of
     (λ x. (k : ℕ) (id : Identity) → slice_get x.ids k ≡ Some id → id_at line (x.from + k) ≡ Some id) seen_is (λ x. refl)
-    (λ x. dec_each x.ids (λ k. (id : Identity) → slice_get x.ids k ≡ Some id → id_at line (x.from + k) ≡ Some id) (λ k e id h. let g : None ≡ Some id = sym e ∙ h in cc)
+    (λ x. dec_each x.ids (λ k. (id : Identity) → slice_get x.ids k ≡ Some id → id_at line (x.from + k) ≡ Some id) (λ k e id h. absurd (absent (slice_get x.ids k) id e h))
     (λ k. dec_if_some (slice_get x.ids k) (λ id. id_at line (x.from + k) ≡ Some id) (λ id. dec_id_at line (x.from + k) id)))))
 
 abbrev pub dec_slices : (history : List Event) (line : List Entry) → Dec (Slices history line)

@@ -1,7 +1,5 @@
 -- What is broken, and by which pair, is decided by tests.
-use Rattle.std.proofs.Common.{◌≡◌, ◌≢◌, ℕ, ◌<◌, Bool, true, false, not, ◌&&◌, ◌||◌, nat_lt, ◌==◌, if◌then◌else◌, List, ◌⊎◌, inl, inr, refl, sym, ◌∙◌, ap, subst, arith}
-use Rattle.std.specs.Bool.{Decides}
-use Rattle.std.proofs.lemmas.Bool.Decides.{not_from_Decides, Decides-eqb}
+use Rattle.std.proofs.Common.{◌≡◌, ◌≢◌, ℕ, ◌<◌, true, ◌==◌, if◌then◌else◌, List, inl, inr, refl, sym, ◌∙◌, ap, subst}
 use Rattle.law_cases.proofs.Decide.{Dec, dec_like, dec_not, dec_and, dec_implies, dec_nat, dec_lt, dec_below}
 use Rattle.law_cases.proofs.Clauses.{dec_unique_at, dec_unique_row, dec_unique, dec_invoked_at, dec_invoked, dec_finished_at, dec_finished, dec_ordered_at, dec_ordered_row, dec_ordered}
 use Rattle.law_cases.proofs.ReadClauses.{dec_slices_at, dec_slices, dec_covered_at, dec_covered_row, dec_covered, dec_tails_at, dec_tails_row, dec_tails, dec_behind_at, dec_behind_row, dec_behind, dec_trims_at, dec_trims}

@@ -7,6 +7,7 @@
 mod broken;
 mod first_broken;
 mod lawful;
+mod laws;
 
 pub use broken::{
     a_forced_answer_covers_what_was_finished, a_read_is_answered_by_what_it_asked_for,
@@ -24,4 +25,8 @@ pub use first_broken::{
 pub use lawful::{
     appends_of_every_outcome_are_lawful, checked_lines_are_lawful,
     reads_of_every_outcome_are_lawful,
+};
+pub use laws::{
+    acknowledged_appends_stand_once, answers_agree, no_answer_has_a_gone_entry,
+    order_is_precedence, tail_reads_are_forced,
 };

@@ -1,0 +1,5 @@
+use Rattle.law_cases.proofs.Consequences.{precedence_to, precedence_from}
+use Rattle.law_cases.proofs.laws.order_is_precedence.Goals as goal
+
+pub returns : goal.returns
+returns c = λ history line u. (precedence_to history line, precedence_from history line u)
