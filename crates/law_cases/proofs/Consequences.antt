@@ -1,5 +1,5 @@
 -- What follows from the law for every history and line.
-use Rattle.std.proofs.Common.{◌≡◌, ℕ, ◌<◌, IsTrue, IsSome, Option, Some, List, map, slice_get, inl, inr, refl, sym, ◌∙◌, ap, subst, arith}
+use Rattle.std.proofs.Common.{◌≡◌, ℕ, ◌+◌, ◌-◌, ◌<◌, length, min, IsTrue, IsSome, Option, Some, List, map, slice_get, inl, inr, refl, sym, ◌∙◌, ap, subst, arith}
 use Rattle.std.specs.Prelude.{option_map}
 use Rattle.std.proofs.lemmas.Bool.{cases_lt}
 use Rattle.std.proofs.lemmas.Option.{slice_get-map}
@@ -7,9 +7,9 @@ use Rattle.law_cases.specs.Precedes.{KeepsPrecedence}
 use Rattle.law_cases.specs.Told.{IsAnswered, StandsOnce}
 use Rattle.law_cases.proofs.Order.{in_at, at_in, precedes_at, at_precedes, told_cases, told_from}
 use Rattle.rec_id.specs.Identity.{Identity}
-use Rattle.rec_id.specs.History.{finished_id, invoked_id, begun_read, is_tail, told_at, IsInvokedWith}
+use Rattle.rec_id.specs.History.{finished_id, invoked_id, begun_read, asked_from, asked_to, is_tail, told_at, IsInvokedWith}
 use Rattle.rec_id.specs.Line.{named_id, appended_id, id_at, IsToldOf, IsToldAt}
-use Rattle.rec_id.specs.Lawful.{Unique, Finished, Ordered, Slices}
+use Rattle.rec_id.specs.Lawful.{EndsRead, Unique, Finished, Ordered, Slices}
 use Rattle.rec_id.specs.declared.entry.Entry.{Entry}
 use Rattle.rec_id.specs.declared.entry.Entry.TheVariants.{Kept, Noop, Gone}
 use Rattle.rec_id.specs.declared.event.Ask.{Ask}
@@ -70,13 +70,24 @@ none_gone history line s place id h = let t = told_place history line s place (G
 
 -- an answer to a tail ask
 
+-- the ask of the Begin that stands before an Answer is the one that the answer is measured by
+pub same_ask : (history : List Event) (j : ℕ) (client read : ℕ) (ends : EndsRead history j (record { client = client; number = read })) (i : ℕ) (ask : Ask) → i < j → slice_get history i ≡ Some (Begin client read ask) → ask ≡ ends.ask
+same_ask history j client read ends i ask lt b =
+    let same : i ≡ ends.begun.index = ends.begun.only i lt (told_from begun_read history i (Begin client read ask) (record { client = client; number = read }) b refl) in
+    let e : Some (Begin client read ask) ≡ Some (Begin client read ends.ask) = sym b ∙ ap (slice_get history) same ∙ ends.asks in
+    cc
+
 pub tail_forced : (history : List Event) (line : List Entry) → Slices history line → (i j client read start from : ℕ) (entries : List Entry) (tail : Option ℕ) → i < j → slice_get history i ≡ Some (Begin client read (Tail start)) → slice_get history j ≡ Some (Answer client read from entries tail) → IsSome tail
 tail_forced history line s i j client read start from entries tail lt b a =
     let r = (s j).answer client read from entries tail a in
-    let same : i ≡ r.ends.begun.index = r.ends.begun.only i lt (told_from begun_read history i (Begin client read (Tail start)) (record { client = client; number = read }) b refl) in
-    let e : Some (Begin client read (Tail start)) ≡ Some (Begin client read r.ends.ask) = sym b ∙ ap (slice_get history) same ∙ r.ends.asks in
-    let ask : Tail start ≡ r.ends.ask = cc in
+    let ask = same_ask history j client read r.ends i (Tail start) lt b in
     r.forced (subst (λ (x : Ask). IsTrue (is_tail x)) ask refl)
+
+pub tail_count : (history : List Event) (line : List Entry) → Slices history line → (i j client read start from : ℕ) (entries : List Entry) (t : ℕ) → i < j → slice_get history i ≡ Some (Begin client read (Tail start)) → slice_get history j ≡ Some (Answer client read from entries (Some t)) → (start ≡ from) × (length entries ≡ min (start + 256) t - from)
+tail_count history line s i j client read start from entries t lt b a =
+    let r = (s j).answer client read from entries (Some t) a in
+    let ask = same_ask history j client read r.ends i (Tail start) lt b in
+    (ap asked_from ask ∙ r.asked, r.count t refl ∙ ap (λ (x : Ask). min (asked_to x) t - from) (sym ask))
 
 -- what is acknowledged
 

@@ -1,6 +1,6 @@
 //! What follows from the law for every history and line.
 
-ghost use Rattle.std.specs.Prelude.{◌≡◌, ◌<◌, ◌↔◌, ℕ, List, Option, Some, IsSome, slice_get};
+ghost use Rattle.std.specs.Prelude.{◌≡◌, ◌+◌, ◌-◌, ◌<◌, ◌↔◌, ℕ, List, Option, Some, IsSome, length, min, slice_get};
 ghost use Rattle.law_cases.specs.Precedes.{KeepsPrecedence};
 ghost use Rattle.law_cases.specs.Told.{IsAnswered, StandsOnce};
 ghost use Rattle.rec_id.specs.Identity.{Identity};
@@ -32,8 +32,10 @@ pub fn no_answer_has_a_gone_entry()
     ensures { (history : List Event) (line : List Entry) → Lawful history line → (place : ℕ) (id : Identity) → ¬ IsAnswered history place (Gone id) }
 {}
 
-/// The answer to a read of the tail is forced, also where it has all the entries that were asked
-/// for.
+/// A read of the tail is answered by force, also where it has all that it may have: the entries of
+/// 256 places from its start on, or those up to its tail.
 pub fn tail_reads_are_forced()
-    ensures { (history : List Event) (line : List Entry) → Lawful history line → (i j client read start from : ℕ) (entries : List Entry) (tail : Option ℕ) → i < j → slice_get history i ≡ Some (Begin client read (Tail start)) → slice_get history j ≡ Some (Answer client read from entries tail) → IsSome tail }
+    ensures forced { (history : List Event) (line : List Entry) → Lawful history line → (i j client read start from : ℕ) (entries : List Entry) (tail : Option ℕ) → i < j → slice_get history i ≡ Some (Begin client read (Tail start)) → slice_get history j ≡ Some (Answer client read from entries tail) → IsSome tail }
+    ensures from { (history : List Event) (line : List Entry) → Lawful history line → (i j client read start from : ℕ) (entries : List Entry) (t : ℕ) → i < j → slice_get history i ≡ Some (Begin client read (Tail start)) → slice_get history j ≡ Some (Answer client read from entries (Some t)) → start ≡ from }
+    ensures count { (history : List Event) (line : List Entry) → Lawful history line → (i j client read start from : ℕ) (entries : List Entry) (t : ℕ) → i < j → slice_get history i ≡ Some (Begin client read (Tail start)) → slice_get history j ≡ Some (Answer client read from entries (Some t)) → length entries ≡ min (start + 256) t - start }
 {}

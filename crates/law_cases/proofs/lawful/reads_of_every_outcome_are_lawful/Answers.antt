@@ -19,5 +19,6 @@ returns c = record {
   an_append_behind_it = lawful _ _ refl;
   an_order = lawful _ _ refl;
   no_order = lawful _ _ refl;
+  trims_of_two_clients = lawful _ _ refl;
   the_same_number_of_two_clients = lawful _ _ refl;
 }
