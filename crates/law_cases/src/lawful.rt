@@ -40,6 +40,9 @@ pub fn reads_of_every_outcome_are_lawful()
     ensures an_order { Lawful (Invoke a x ∷ Invoke b y ∷ Seen 0 1 (b ∷ []) ∷ Invoke c x ∷ []) (Kept a x ∷ Kept b y ∷ Kept c x ∷ []) }
     ensures no_order { Lawful (Seen 0 5 [] ∷ Invoke a x ∷ []) (Kept a x ∷ []) }
     ensures trims_of_two_clients { Lawful (Invoke a x ∷ Invoke b y ∷ TrimAsk 0 1 1 ∷ TrimDone 0 1 1 ∷ TrimAsk 0 2 2 ∷ TrimAsk 1 2 1 ∷ TrimDone 1 2 1 ∷ TrimDone 0 2 2 ∷ []) (Gone a ∷ Gone b ∷ []) }
+    ensures one_read_after_the_other { Lawful (Begin 0 1 (Range 0 0) ∷ Answer 0 1 0 [] None ∷ Begin 0 2 (Range 0 0) ∷ Answer 0 2 0 [] None ∷ []) [] }
+    ensures the_later_number_first { Lawful (Begin 0 2 (Range 0 0) ∷ Answer 0 2 0 [] None ∷ Begin 0 1 (Range 0 0) ∷ Answer 0 1 0 [] None ∷ []) [] }
+    ensures a_read_after_a_trimmed_one { Lawful (TrimAsk 1 1 1 ∷ Begin 0 2 (Range 0 1) ∷ Trimmed 0 2 1 ∷ Begin 0 1 (Range 0 1) ∷ Trimmed 0 1 1 ∷ Begin 0 3 (Range 1 1) ∷ Answer 0 3 1 [] None ∷ []) [] }
     ensures the_same_number_of_two_clients { Lawful (Begin 0 1 (Range 0 0) ∷ Begin 1 1 (Range 0 0) ∷ Answer 0 1 0 [] None ∷ Answer 1 1 0 [] None ∷ []) [] }
 {}
 

@@ -6,7 +6,7 @@ use Rattle.rec_id.specs.declared.entry.Entry.{Entry}
 use Rattle.rec_id.specs.declared.entry.Entry.TheVariants.{Kept, Noop, Gone}
 use Rattle.rec_id.specs.declared.event.Ask.{Ask}
 use Rattle.rec_id.specs.declared.event.Event.{Event}
-use Rattle.rec_id.specs.declared.event.Event.TheVariants.{Acked, Rejected, Begin, Answer, Seen, TrimAsk, TrimDone, Trimmed}
+use Rattle.rec_id.specs.declared.event.Event.TheVariants.{Acked, Rejected, Begin, Answer, Seen, TrimDone, Trimmed}
 
 -- Each clause is said of a pair of indices of the history or places of the line, or of one of them, and holds where it
 -- holds of all. The letters are those that are printed where a clause is broken.

@@ -20,5 +20,8 @@ returns c = record {
   an_order = lawful _ _ refl;
   no_order = lawful _ _ refl;
   trims_of_two_clients = lawful _ _ refl;
+  one_read_after_the_other = lawful _ _ refl;
+  the_later_number_first = lawful _ _ refl;
+  a_read_after_a_trimmed_one = lawful _ _ refl;
   the_same_number_of_two_clients = lawful _ _ refl;
 }
