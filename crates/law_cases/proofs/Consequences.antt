@@ -3,13 +3,13 @@ use Rattle.std.proofs.Common.{◌≡◌, ℕ, ◌+◌, ◌-◌, ◌<◌, length,
 use Rattle.std.specs.Prelude.{option_map}
 use Rattle.std.proofs.lemmas.Bool.{cases_lt}
 use Rattle.std.proofs.lemmas.Option.{slice_get-map}
-use Rattle.law_cases.specs.Precedes.{KeepsPrecedence}
+use Rattle.law_cases.specs.Precedes.{KeepsPrecedence, KeepsReach}
 use Rattle.law_cases.specs.Told.{IsAnswered, StandsOnce}
 use Rattle.law_cases.proofs.Order.{in_at, at_in, precedes_at, at_precedes, told_cases, told_from}
 use Rattle.rec_id.specs.Identity.{Identity}
-use Rattle.rec_id.specs.History.{finished_id, invoked_id, begun_read, asked_from, asked_to, is_tail, told_at, IsInvokedWith}
+use Rattle.rec_id.specs.History.{finished_id, invoked_id, begun_read, asked_from, asked_to, is_tail, told_at, told_reach, IsInvokedWith}
 use Rattle.rec_id.specs.Line.{named_id, appended_id, id_at, IsToldOf, IsToldAt}
-use Rattle.rec_id.specs.Lawful.{EndsRead, Unique, Finished, Ordered, Slices}
+use Rattle.rec_id.specs.Lawful.{EndsRead, Unique, Finished, Ordered, Slices, BehindRead}
 use Rattle.rec_id.specs.declared.entry.Entry.{Entry}
 use Rattle.rec_id.specs.declared.entry.Entry.TheVariants.{Kept, Noop, Gone}
 use Rattle.rec_id.specs.declared.event.Ask.{Ask}
@@ -132,4 +132,19 @@ precedence_from history line u h i j = record {
       let same : k.second ≡ place = same_place line u k.second place b (listed_id line k.second b k.has_y) n in
       let before = k.before in
       record { place = k.first; below = omega arith; names = listed_id line k.first a k.has_x };
+}
+
+-- what is behind what was read, by precedence
+
+pub reach_to : (history : List Event) (line : List Entry) → BehindRead history line → KeepsReach history line
+reach_to history line h reach place b last first f g p n =
+    let k = at_precedes history last first p in
+    (h k.first k.second).behind reach place b k.before (told_from told_reach history k.first last reach k.has_x f) (told_from invoked_id history k.second first b k.has_y g) n
+
+pub reach_from : (history : List Event) (line : List Entry) → KeepsReach history line → BehindRead history line
+reach_from history line h i j = record {
+  behind = λ reach place b lt f g n.
+      let x = told_cases told_reach history i reach f in
+      let y = told_cases invoked_id history j b g in
+      h reach place b x.0 y.0 x.2 y.2 (precedes_at history i j x.0 y.0 lt x.1 y.1) n;
 }

@@ -1,10 +1,10 @@
 //! What follows from the law for every history and line.
 
 ghost use Rattle.std.specs.Prelude.{◌≡◌, ◌+◌, ◌-◌, ◌<◌, ◌↔◌, ℕ, List, Option, Some, IsSome, length, min, slice_get};
-ghost use Rattle.law_cases.specs.Precedes.{KeepsPrecedence};
+ghost use Rattle.law_cases.specs.Precedes.{KeepsPrecedence, KeepsReach};
 ghost use Rattle.law_cases.specs.Told.{IsAnswered, StandsOnce};
 ghost use Rattle.rec_id.specs.Identity.{Identity};
-ghost use Rattle.rec_id.specs.Lawful.{Lawful, Unique, Ordered};
+ghost use Rattle.rec_id.specs.Lawful.{Lawful, Unique, Ordered, BehindRead};
 ghost use Rattle.rec_id.specs.declared.entry.Entry.{Entry};
 ghost use Rattle.rec_id.specs.declared.entry.Entry.TheVariants.{Gone};
 ghost use Rattle.rec_id.specs.declared.event.Ask.TheVariants.{Tail};
@@ -16,10 +16,11 @@ pub fn acknowledged_appends_stand_once()
     ensures { (history : List Event) (line : List Entry) → Lawful history line → (i : ℕ) (id : Identity) → slice_get history i ≡ Some (Acked id) → StandsOnce line id }
 {}
 
-/// Clause (d) in the words of precedence: where one event stands in the history with another behind
-/// it, and where one identity stands in the line with another behind it.
+/// Clauses (d) and (h) in the words of precedence: where one event stands in the history with
+/// another behind it, and where one identity stands in the line with another behind it.
 pub fn order_is_precedence()
-    ensures { (history : List Event) (line : List Entry) → Unique line → (Ordered history line ↔ KeepsPrecedence history line) }
+    ensures appends { (history : List Event) (line : List Entry) → Unique line → (Ordered history line ↔ KeepsPrecedence history line) }
+    ensures reads { (history : List Event) (line : List Entry) → (BehindRead history line ↔ KeepsReach history line) }
 {}
 
 /// Two answers tell the same of a place, trimmed meanwhile or not.
