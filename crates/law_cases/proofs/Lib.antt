@@ -1,0 +1,7 @@
+pub mod Decide
+pub mod Forms
+pub mod Clauses
+pub mod ReadClauses
+pub mod Verdicts
+pub mod Order
+pub mod Consequences

@@ -1,0 +1,4 @@
+pub mod Names
+pub mod BrokenBy
+pub mod Precedes
+pub mod Told
