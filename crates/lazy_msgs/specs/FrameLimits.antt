@@ -96,10 +96,11 @@ pub record MarksFit (edition : Edition) (marks : Marks) : Type 0 where
   pub highest : 1 ≤ marks.top → slice_index marks.bits 0 % 2 ≡ 1
   pub lowest : EndAt marks.top marks.bits
 
--- the marks of at least one client
+-- the marks of each client
 pub record WindowFits (edition : Edition) (window : List Marks) : Type 0 where
   pub least : 1 ≤ length window
-  pub clients : ListFits 256 (MarksFit edition) window
+  pub most : length window ≤ 256
+  pub each : AllByRecursion (MarksFit edition) window
 
 -- which kinds edition Two alone has
 abbrev pub IsTwo : Edition → Type 0

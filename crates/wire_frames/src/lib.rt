@@ -1,0 +1,11 @@
+//! Envelopes as bytes: whether an envelope has a frame in an edition, and the frame itself.
+//!
+//! The form of a frame stands in words with the messages. Nothing here sends or keeps one.
+#![tactic(auto)]
+
+mod lengths;
+mod limits;
+mod writing;
+
+pub use limits::fits;
+pub use writing::encode;
