@@ -5,7 +5,9 @@
 
 mod lengths;
 mod limits;
+mod offence;
 mod writing;
 
 pub use limits::fits;
+pub use offence::FrameError;
 pub use writing::encode;
