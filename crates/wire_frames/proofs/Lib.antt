@@ -1,2 +1,4 @@
 pub mod FieldLengths
 pub mod Again
+pub mod AgainFields
+pub mod AgainFrame

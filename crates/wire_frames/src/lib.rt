@@ -3,11 +3,13 @@
 //! The form of a frame stands in words with the messages. Nothing here sends or keeps one.
 #![tactic(auto)]
 
+mod laws;
 mod lengths;
 mod limits;
 mod offence;
 mod writing;
 
+pub use laws::one_form;
 pub use limits::fits;
 pub use offence::FrameError;
 pub use writing::encode;
