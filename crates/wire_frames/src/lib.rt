@@ -9,7 +9,10 @@ mod limits;
 mod offence;
 mod writing;
 
-pub use laws::one_form;
+pub use laws::{marks_by_bit, one_form};
 pub use limits::fits;
 pub use offence::FrameError;
 pub use writing::encode;
+
+#[cfg(test)]
+mod tests;
