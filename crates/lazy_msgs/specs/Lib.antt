@@ -2,3 +2,5 @@ pub mod Refused
 pub mod Weight
 pub mod Outbox
 pub mod Step
+pub mod Frame
+pub mod FrameLimits

@@ -1,0 +1,5 @@
+pub mod FieldLengths
+pub mod Again
+pub mod AgainFields
+pub mod AgainFrame
+pub mod MarkBits
