@@ -4,6 +4,7 @@
 
 mod append_client;
 
+mod event;
 mod ledger;
 mod sending;
 mod seq_node;
