@@ -1,5 +1,7 @@
 pub mod Due
 pub mod Places
+pub mod Receiving
+pub mod Rows
 pub mod Posting
 pub mod Soundness
 pub mod Steps

@@ -1,0 +1,82 @@
+use Rattle.std.proofs.Common.{◌≡◌, ℕ, ◌<◌, List, [], ◌∷◌, Bool, true, false, not, All, Option, None, Some, refl, arith, if◌then◌else◌}
+use Rattle.std.specs.List.{slice_get}
+use Rattle.std.proofs.lemmas.Bool.Decides.{nat_tests}
+use Rattle.std.proofs.lemmas.List.Elements.{All-nil, All-cons}
+use Rattle.rec_id.specs.Identity.{Identity}
+use Rattle.view_config.specs.Shape.{Dimensions}
+use Rattle.lazy_msgs.specs.declared.msg.Msg.{Msg}
+use Rattle.lazy_msgs.specs.declared.msg.Msg.TheVariants.{Append, AppendAck}
+use Rattle.lazy_msgs.specs.Step.{Row}
+use Rattle.lazy_rules.specs.ClientState.{ClientState, OpenAppend}
+use Rattle.lazy_rules.specs.ClientRules.{client_took, on_append_ack, acknowledged, acknowledged_at, acknowledges, finishes, noted, is_complete, place_of}
+use Rattle.lazy_rules.specs.Door.{is_turned_away}
+use Rattle.lazy_rules.specs.Rows.{stays, answers, has_node}
+use Rattle.lazy_rules.specs.SeqState.{SeqState}
+use Rattle.lazy_rules.specs.SeqRules.{seq_took, on_append, is_active, has_room, with_item}
+use Rattle.lazy_rules.specs.Windows.{has_seen}
+use Rattle.lazy_core.specs.Early.{IsDue, IsInFirstView}
+
+-- what holds of both outcomes of a test holds of the one that it chooses
+pub either : {A : Type 0} (P : A → Type 0) (b : Bool) (x y : A) → (b ≡ true → P x) → (b ≡ false → P y) → P (if b then x else y)
+either P true x y f g = f refl
+either P false x y f g = g refl
+
+-- an append that isn't turned away is of a client of the shape
+pub let_in : (shape : Dimensions) (from view : ℕ) (id : Identity) (bytes : Option (List ℕ)) → is_turned_away shape from (Append view id bytes) ≡ false → id.client < shape.clients
+let_in shape from view id bytes h = grind (arith, nat_tests)
+
+-- what a replica's step on an append leaves: its shape stays, and what it sends is due
+pub record Leaves (shape : Dimensions) (row : Row SeqState) : Type 0 where
+  pub shaped : row.next.shape ≡ shape
+  pub due : All (λ send. IsDue shape send.0 send.1) row.sends
+
+leaves_stays : (shape : Dimensions) (s : SeqState) → s.shape ≡ shape → Leaves shape (stays s)
+leaves_stays shape s h = record { shaped = h; due = All-nil (λ (send : ℕ × Msg). IsDue shape send.0 send.1) }
+
+leaves_ack : (shape : Dimensions) (s : SeqState) (view : ℕ) (id : Identity) → s.shape ≡ shape → id.client < shape.clients → Leaves shape (answers s id.client (AppendAck view id))
+leaves_ack shape s view id h within = record {
+  shaped = h;
+  due = All-cons (λ (send : ℕ × Msg). IsDue shape send.0 send.1) (id.client, AppendAck view id) [] within (All-nil (λ (send : ℕ × Msg). IsDue shape send.0 send.1))
+}
+
+leaves_on_append : (shape : Dimensions) (s : SeqState) (view : ℕ) (id : Identity) (bytes : Option (List ℕ)) → s.shape ≡ shape → id.client < shape.clients → Leaves shape (on_append s view id bytes)
+leaves_on_append shape s view id bytes h within =
+    search (either (Leaves shape), leaves_stays shape s h, leaves_ack shape s view id h within, leaves_ack shape (with_item s id bytes) view id h within)
+
+pub append_leaves : (shape : Dimensions) (s : SeqState) (from view : ℕ) (id : Identity) (bytes : Option (List ℕ)) → s.shape ≡ shape → Leaves shape (seq_took s from (Append view id bytes))
+append_leaves shape s from view id bytes h =
+    either (Leaves shape) (is_turned_away s.shape from (Append view id bytes)) (stays s) (on_append s view id bytes)
+    (λ e. leaves_stays shape s h)
+    (λ e. leaves_on_append shape s view id bytes h (rw (← h) (let_in s.shape from view id bytes e)))
+
+-- what a client's step on an acknowledgement leaves: it stays in view 1, and sends nothing
+pub record Notes (shape : Dimensions) (row : Row ClientState) : Type 0 where
+  pub first : IsInFirstView shape row.next
+  pub silent : row.sends ≡ []
+
+notes_stays : (shape : Dimensions) (c : ClientState) → IsInFirstView shape c → Notes shape (stays c)
+notes_stays shape c h = record { first = h; silent = refl }
+
+notes_acknowledges : (shape : Dimensions) (c : ClientState) (i : ℕ) (append : OpenAppend) → IsInFirstView shape c → Notes shape (acknowledges c i append)
+notes_acknowledges shape c i append h =
+    either (Notes shape) (is_complete c append) _ _
+    (λ e. record { first = record { shaped = h.shaped; first = h.first }; silent = refl })
+    (λ e. record { first = record { shaped = h.shaped; first = h.first }; silent = refl })
+
+notes_at : (shape : Dimensions) (c : ClientState) (node i : ℕ) (there : Option OpenAppend) → IsInFirstView shape c → Notes shape (acknowledged_at c node i there)
+notes_at shape c node i None h = notes_stays shape c h
+notes_at shape c node i (Some append) h = notes_acknowledges shape c i (noted append node) h
+
+notes_acknowledged : (shape : Dimensions) (c : ClientState) (node : ℕ) (place : Option ℕ) → IsInFirstView shape c → Notes shape (acknowledged c node place)
+notes_acknowledged shape c node None h = notes_stays shape c h
+notes_acknowledged shape c node (Some i) h = notes_at shape c node i (slice_get c.unfinished i) h
+
+notes_on_ack : (shape : Dimensions) (c : ClientState) (from view : ℕ) (id : Identity) → IsInFirstView shape c → Notes shape (on_append_ack c from view id)
+notes_on_ack shape c from view id h =
+    search (either (Notes shape), notes_stays shape c h, notes_acknowledged shape c from (place_of c id.number) h)
+
+pub ack_notes : (shape : Dimensions) (c : ClientState) (from view : ℕ) (id : Identity) → IsInFirstView shape c → Notes shape (client_took c from (AppendAck view id))
+ack_notes shape c from view id h =
+    either (Notes shape) (is_turned_away c.shape from (AppendAck view id)) (stays c) (on_append_ack c from view id)
+    (λ e. notes_stays shape c h)
+    (λ e. notes_on_ack shape c from view id h)
