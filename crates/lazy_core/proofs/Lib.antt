@@ -1,4 +1,5 @@
 pub mod Due
+pub mod Keeping
 pub mod Places
 pub mod Receiving
 pub mod Rows
