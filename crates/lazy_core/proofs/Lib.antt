@@ -1,3 +1,4 @@
+pub mod Dispatch
 pub mod Due
 pub mod Keeping
 pub mod Places

@@ -8,14 +8,20 @@ ghost use Rattle.lazy_rules.specs.ClientState.{ClientState};
 ghost use Rattle.lazy_rules.specs.ClientRules.{invokes, post_refusal, client_took};
 ghost use Rattle.lazy_rules.specs.SeqState.{SeqState};
 ghost use Rattle.lazy_rules.specs.SeqRules.{seq_took};
+ghost use Rattle.view_config.specs.Shape.{node_of};
+ghost use Rattle.lazy_msgs.specs.declared.input.WorldEvent.TheVariants.{Post, Deliver};
 ghost use Rattle.lazy_msgs.specs.declared.msg.Msg.TheVariants.{Append, AppendAck};
-ghost use Rattle.lazy_core.specs.Early.{IsSeqNode};
-ghost use Rattle.lazy_rules.specs.WorldRules.{client_did, seq_did, posting_refused, messages_limit};
+ghost use Rattle.lazy_core.specs.Early.{IsBuilt, IsSeqNode, IsEarly};
+ghost use Rattle.lazy_rules.specs.WorldRules.{IsWithinLimits, after, refusal, received, delivery_to_refused, client_did, seq_did, posting_refused, messages_limit};
 ghost use Rattle.lazy_core.specs.Happens.{HappensIn, IsWithinRoom};
 
-use crate::World;
-use lazy_msgs::{Envelope, EventRefused};
+use crate::{MESSAGES_LIMIT, World};
+use lazy_msgs::{Envelope, EventRefused, Msg, WorldEvent};
 use rec_id::{Bytes, RecordId};
+
+/// For how many messages an event is tried at first, and how many times more at each further try.
+const FIRST_ROOM: u32 = 64;
+const ROOM_GROWTH: u32 = 16;
 
 impl World {
     /// A client of the shape, which isn't crashed, appends `bytes`.
@@ -76,5 +82,84 @@ impl World {
         client.append_ack(envelope.from, view, id, &mut out)?;
         self.ledger.enter(envelope.to, envelope.time, out);
         Ok(())
+    }
+
+    /// Client `c` appends `bytes`.
+    fn post(&mut self, c: u32, bytes: &Bytes, room: u32) -> Result<(), EventRefused>
+        requires mode { self.old.shape.mode ≡ M }
+        requires countable { self.old.events + 1 < 2 ^ 32 }
+        requires room { length self.old.sent + room ≤ messages_limit }
+        ensures { HappensIn (IsWithinRoom room self.old (after self.old (Post c bytes.now))) (after self.old (Post c bytes.now)) (refusal self.old (Post c bytes.now)) self.old self.new result }
+    {
+        if c as usize >= self.clients.len() {
+            return Err(EventRefused::NoNode(c));
+        }
+        if self.crashed.contains(&c) {
+            return Err(EventRefused::Crashed(c));
+        }
+        self.take_post(c, bytes, room)
+    }
+
+    /// The node that message `k` is for takes it.
+    fn receive(&mut self, k: u32, envelope: &Envelope, room: u32) -> Result<(), EventRefused>
+        requires early { IsEarly self.old.shape self.old.events envelope.now }
+        requires countable { self.old.events + 1 < 2 ^ 32 }
+        requires room { length self.old.sent + room ≤ messages_limit }
+        ensures { HappensIn (IsWithinRoom room self.old (received self.old envelope.now (node_of self.old.shape envelope.now.to))) (received self.old envelope.now (node_of self.old.shape envelope.now.to)) (delivery_to_refused self.old k envelope.now.to envelope.now.msg) self.old self.new result }
+    {
+        if self.crashed.contains(&envelope.to) {
+            return Err(EventRefused::Crashed(envelope.to));
+        }
+        match &envelope.msg {
+            Msg::Append { view, id, bytes } => self.take_append(envelope, *view, *id, bytes, room),
+            Msg::AppendAck { view, id } => self.take_append_ack(envelope, *view, *id, room),
+            _ => unreachable!(),
+        }
+    }
+
+    /// Message `k` is delivered.
+    fn deliver(&mut self, k: u32, room: u32) -> Result<(), EventRefused>
+        requires countable { self.old.events + 1 < 2 ^ 32 }
+        requires room { length self.old.sent + room ≤ messages_limit }
+        ensures { HappensIn (IsWithinRoom room self.old (after self.old (Deliver k))) (after self.old (Deliver k)) (refusal self.old (Deliver k)) self.old self.new result }
+    {
+        let Some(envelope) = self.ledger.message(k) else {
+            return Err(EventRefused::NoMessage(k));
+        };
+        let envelope = envelope.copy()?;
+        self.receive(k, &envelope, room)
+    }
+
+    /// The event, if it sends no more than so many messages; spent, if it would send more.
+    fn event_within(&mut self, event: &WorldEvent, room: u32) -> Result<(), EventRefused>
+        requires built { IsBuilt self.old.shape event.now }
+        requires countable { self.old.events + 1 < 2 ^ 32 }
+        requires room { length self.old.sent + room ≤ messages_limit }
+        ensures { HappensIn (IsWithinRoom room self.old (after self.old event.now)) (after self.old event.now) (refusal self.old event.now) self.old self.new result }
+    {
+        match event {
+            WorldEvent::Post(c, bytes) => self.post(*c, bytes, room),
+            WorldEvent::Deliver(k) => self.deliver(*k, room),
+            _ => unreachable!(),
+        }
+    }
+
+    /// One event. It is refused in the order of [`EventRefused`], and then nothing is changed.
+    ///
+    /// An event rarely sends many messages, so it is tried with little room first.
+    pub fn event(&mut self, event: &WorldEvent) -> Result<(), EventRefused>
+        requires built { IsBuilt self.old.shape event.now }
+        requires countable { self.old.events + 1 < 2 ^ 32 }
+        ensures { HappensIn (IsWithinLimits (after self.old event.now)) (after self.old event.now) (refusal self.old event.now) self.old self.new result }
+    {
+        let left = MESSAGES_LIMIT - self.sent();
+        let mut room = FIRST_ROOM;
+        while room < left {
+            match self.event_within(event, room) {
+                Err(EventRefused::Spent) => room *= ROOM_GROWTH,
+                outcome => return outcome,
+            }
+        }
+        self.event_within(event, left)
     }
 }
