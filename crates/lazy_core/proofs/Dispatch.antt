@@ -30,7 +30,7 @@ refused_as F next reason w e is other = record {
   named = λ a b. is;
   unspent = λ spent. absurd (other (let unwrap : ◌≡◌ {A = Result (Unit {0}) EventRefused} (Err e) (Err Spent) = spent in cc));
   spent = λ spent. absurd (other (let unwrap : ◌≡◌ {A = Result (Unit {0}) EventRefused} (Err e) (Err Spent) = spent in cc));
-  unchanged = refl
+  unchanged = refl;
 }
 
 -- what holds of all members holds of one

@@ -19,8 +19,8 @@ pub seqs_due : (shape : Dimensions) → All (IsSeqNode shape) (first_seqs shape.
 seqs_due shape =
     All-map (IsSeqNode shape) seq_id (range_with_len 0 shape.seq)
     (λ k d h.
-      let below : k < shape.seq = rw length-range_with_len at h in
-      rw (get_or-range_with_len 0 shape.seq k d below) (record { least = omega arith; most = omega arith }))
+    let below : k < shape.seq = rw length-range_with_len at h in
+    rw (get_or-range_with_len 0 shape.seq k d below) (record { least = omega arith; most = omega arith }))
 
 -- a record that a client in view 1 sends is due where it goes
 pub record_due : (shape : Dimensions) (c : ClientState) (append : OpenAppend) → IsInFirstView shape c → All (λ send. IsDue shape send.0 send.1) (sending_record c append)

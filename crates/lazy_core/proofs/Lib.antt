@@ -1,5 +1,6 @@
 pub mod Dispatch
 pub mod Due
+pub mod Holding
 pub mod Keeping
 pub mod Places
 pub mod Receiving

@@ -52,7 +52,7 @@ pub post_made : (w : WorldState) (c room : ℕ) (own : List ℕ) (held after : C
 post_made w c room own held after out out_after id before middle ledger made steps times sent history events keeps adds =
     let row = invokes held own in
     let is : out_after ≡ put_on (room_for w room) row.sends row.events =
-        subst (λ (o : Out). out_after ≡ put_on o row.sends row.events) made steps.sent in
+    subst (λ (o : Out). out_after ≡ put_on o row.sends row.events) made steps.sent in
     let adds_row : Adds c 0 row.sends row.events middle ledger = subst (λ (o : Out). Adds c 0 o.sends o.events middle ledger) is adds in
     made_client_did w c 0 row (set w.clients c after) middle ledger (ap (set w.clients c) steps.state) (keeps.times ∙ times) (keeps.sent ∙ sent) (keeps.history ∙ history) (keeps.events ∙ events) adds_row
 

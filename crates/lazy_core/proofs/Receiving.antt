@@ -30,7 +30,7 @@ client_refused w c room received row client held after out out_after before ledg
 pub client_made : (w : WorldState) (c room received : ℕ) (row : Row ClientState) (held after : ClientState) (out out_after : Out) (before middle ledger : LedgerState) → out ≡ room_for w room → StepsTo {R = Unit {0}} {E = StepRefused} row held after out out_after (Ok tt) Over → before.times ≡ w.times → before.sent ≡ w.sent → before.history ≡ w.history → before.events ≡ w.events → Keeps before middle → Adds c received out_after.sends out_after.events middle ledger → record w { clients = set w.clients c after; times = ledger.times; sent = ledger.sent; history = ledger.history; events = ledger.events } ≡ client_did w c received row
 client_made w c room received row held after out out_after before middle ledger made steps times sent history events keeps adds =
     let is : out_after ≡ put_on (room_for w room) row.sends row.events =
-        subst (λ (o : Out). out_after ≡ put_on o row.sends row.events) made steps.sent in
+    subst (λ (o : Out). out_after ≡ put_on o row.sends row.events) made steps.sent in
     let adds_row : Adds c received row.sends row.events middle ledger = subst (λ (o : Out). Adds c received o.sends o.events middle ledger) is adds in
     made_client_did w c received row (set w.clients c after) middle ledger (ap (set w.clients c) steps.state) (keeps.times ∙ times) (keeps.sent ∙ sent) (keeps.history ∙ history) (keeps.events ∙ events) adds_row
 
@@ -59,7 +59,7 @@ seq_refused w node i room received row seq held after out out_after before ledge
 pub seq_made : (w : WorldState) (node i room received : ℕ) (row : Row SeqState) (held after : SeqState) (out out_after : Out) (before middle ledger : LedgerState) → out ≡ room_for w room → StepsTo {R = Unit {0}} {E = StepRefused} row held after out out_after (Ok tt) Over → before.times ≡ w.times → before.sent ≡ w.sent → before.history ≡ w.history → before.events ≡ w.events → Keeps before middle → Adds node received out_after.sends out_after.events middle ledger → record w { seqs = set w.seqs i after; times = ledger.times; sent = ledger.sent; history = ledger.history; events = ledger.events } ≡ seq_did w node i received row
 seq_made w node i room received row held after out out_after before middle ledger made steps times sent history events keeps adds =
     let is : out_after ≡ put_on (room_for w room) row.sends row.events =
-        subst (λ (o : Out). out_after ≡ put_on o row.sends row.events) made steps.sent in
+    subst (λ (o : Out). out_after ≡ put_on o row.sends row.events) made steps.sent in
     let adds_row : Adds node received row.sends row.events middle ledger = subst (λ (o : Out). Adds node received o.sends o.events middle ledger) is adds in
     made_seq_did w node i received row (set w.seqs i after) middle ledger (ap (set w.seqs i) steps.state) (keeps.times ∙ times) (keeps.sent ∙ sent) (keeps.history ∙ history) (keeps.events ∙ events) adds_row
 

@@ -36,7 +36,7 @@ leaves_stays shape s h = record { shaped = h; due = All-nil (λ (send : ℕ × M
 leaves_ack : (shape : Dimensions) (s : SeqState) (view : ℕ) (id : Identity) → s.shape ≡ shape → id.client < shape.clients → Leaves shape (answers s id.client (AppendAck view id))
 leaves_ack shape s view id h within = record {
   shaped = h;
-  due = All-cons (λ (send : ℕ × Msg). IsDue shape send.0 send.1) (id.client, AppendAck view id) [] within (All-nil (λ (send : ℕ × Msg). IsDue shape send.0 send.1))
+  due = All-cons (λ (send : ℕ × Msg). IsDue shape send.0 send.1) (id.client, AppendAck view id) [] within (All-nil (λ (send : ℕ × Msg). IsDue shape send.0 send.1));
 }
 
 leaves_on_append : (shape : Dimensions) (s : SeqState) (view : ℕ) (id : Identity) (bytes : Option (List ℕ)) → s.shape ≡ shape → id.client < shape.clients → Leaves shape (on_append s view id bytes)

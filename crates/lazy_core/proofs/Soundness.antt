@@ -24,7 +24,8 @@ sound_first shape valid = record {
   clients_first = All-map (IsInFirstView shape) (first_client shape) (range_with_len 0 shape.clients) (λ k d h. record { shaped = refl; first = refl });
   seqs_shaped = All-map (λ (s : SeqState). s.shape ≡ shape) (first_seq shape) (range_with_len 0 (shape.seq + shape.spares)) (λ k d h. refl);
   sent_early = All-nil (IsEarly shape 0);
-  within = record { in_number = omega arith; in_weight = omega arith }
+  uncrashed = refl;
+  within = record { in_number = omega arith; in_weight = omega arith };
 }
 
 -- it stays so where a client in view 1 takes the place of another
@@ -38,7 +39,8 @@ sound_client w c client h first = record {
   clients_first = All-set (IsInFirstView w.shape) w.clients c client first h.clients_first;
   seqs_shaped = h.seqs_shaped;
   sent_early = h.sent_early;
-  within = record { in_number = h.within.in_number; in_weight = h.within.in_weight }
+  uncrashed = h.uncrashed;
+  within = record { in_number = h.within.in_number; in_weight = h.within.in_weight };
 }
 
 -- and where a replica of the shape takes the place of another
@@ -52,7 +54,8 @@ sound_seq w i seq h shaped = record {
   clients_first = h.clients_first;
   seqs_shaped = All-set (λ (s : SeqState). s.shape ≡ w.shape) w.seqs i seq shaped h.seqs_shaped;
   sent_early = h.sent_early;
-  within = record { in_number = h.within.in_number; in_weight = h.within.in_weight }
+  uncrashed = h.uncrashed;
+  within = record { in_number = h.within.in_number; in_weight = h.within.in_weight };
 }
 
 -- no time of a node is later than the number of events
@@ -76,15 +79,16 @@ sound_stepped w node received sends told h there past due within =
       seq_count = h.seq_count;
       time_count = rw length-set h.time_count;
       times_past =
-      All-set (λ (time : ℕ). time ≤ w.events + 1) w.times node (step_time w node received) soon
-      (All-weaker (λ (time : ℕ). time ≤ w.events) (λ (time : ℕ). time ≤ w.events + 1) (λ time t. omega arith) w.times h.times_past);
+          All-set (λ (time : ℕ). time ≤ w.events + 1) w.times node (step_time w node received) soon
+          (All-weaker (λ (time : ℕ). time ≤ w.events) (λ (time : ℕ). time ≤ w.events + 1) (λ time t. omega arith) w.times h.times_past);
       clients_first = h.clients_first;
       seqs_shaped = h.seqs_shaped;
       sent_early =
-      All-append (IsEarly w.shape (w.events + 1)) w.sent (enveloped node (step_time w node received) sends)
-      (All-weaker (IsEarly w.shape w.events) (IsEarly w.shape (w.events + 1)) (λ envelope early. record { past = omega (arith, early.past); due = early.due }) w.sent h.sent_early)
-      (early_enveloped w.shape node (step_time w node received) (w.events + 1) sends soon due);
-      within = within
+          All-append (IsEarly w.shape (w.events + 1)) w.sent (enveloped node (step_time w node received) sends)
+          (All-weaker (IsEarly w.shape w.events) (IsEarly w.shape (w.events + 1)) (λ envelope early. record { past = omega (arith, early.past); due = early.due }) w.sent h.sent_early)
+          (early_enveloped w.shape node (step_time w node received) (w.events + 1) sends soon due);
+      uncrashed = h.uncrashed;
+      within = within;
     }
 
 -- a world made of such parts is the first one

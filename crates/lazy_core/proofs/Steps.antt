@@ -47,7 +47,7 @@ room_for w room = record { sends = []; events = []; messages_left = room; weight
 pub room_from_fits : (w next : WorldState) (room from time : ℕ) (sends : List (ℕ × Msg)) → next.sent ≡ w.sent ++ enveloped from time sends → sent_weight w.sent ≤ weight_limit → Fits sends (room_for w room) → IsWithinRoom room w next
 room_from_fits w next room from time sends is light fits = record {
   in_number = rw is (omega (arith, length_sent w.sent from time sends, fits.in_number));
-  in_weight = rw is (omega (arith, weight_sent w.sent from time sends, fits.in_weight))
+  in_weight = rw is (omega (arith, weight_sent w.sent from time sends, fits.in_weight));
 }
 
 -- and one within the room fits
@@ -57,7 +57,7 @@ fits_from_room w next room from time sends is within =
     let weight : sent_weight (w.sent ++ enveloped from time sends) ≤ weight_limit = rw is at within.in_weight in
     record {
       in_number = omega (arith, length_sent w.sent from time sends);
-      in_weight = omega (arith, weight_sent w.sent from time sends)
+      in_weight = omega (arith, weight_sent w.sent from time sends);
     }
 
 -- a refusal for want of memory
@@ -69,7 +69,7 @@ refused_memory F next reason w = record {
   named = λ a b. absurd (b refl);
   unspent = λ e. cc;
   spent = λ e. cc;
-  unchanged = refl
+  unchanged = refl;
 }
 
 -- a step that was refused
@@ -81,7 +81,7 @@ refused_step F next w Over h = record {
   named = λ a b. absurd (a refl);
   unspent = λ e. refl;
   spent = λ e. h refl;
-  unchanged = refl
+  unchanged = refl;
 }
 refused_step F next w StepMemory h = refused_memory F next None w
 
@@ -94,7 +94,7 @@ refused_post F next w reason TooLong named none over = record {
   named = λ a b. rw (named (λ x. cc) (λ x. cc));
   unspent = λ e. cc;
   spent = λ e. cc;
-  unchanged = refl
+  unchanged = refl;
 }
 refused_post F next w reason NumbersSpent named none over = record {
   happened = tt;
@@ -103,7 +103,7 @@ refused_post F next w reason NumbersSpent named none over = record {
   named = λ a b. rw (named (λ x. cc) (λ x. cc));
   unspent = λ e. cc;
   spent = λ e. cc;
-  unchanged = refl
+  unchanged = refl;
 }
 refused_post F next w reason (WindowFull low) named none over = record {
   happened = tt;
@@ -112,7 +112,7 @@ refused_post F next w reason (WindowFull low) named none over = record {
   named = λ a b. rw (named (λ x. cc) (λ x. cc));
   unspent = λ e. cc;
   spent = λ e. cc;
-  unchanged = refl
+  unchanged = refl;
 }
 refused_post F next w reason PostOver named none over = record {
   happened = tt;
@@ -121,7 +121,7 @@ refused_post F next w reason PostOver named none over = record {
   named = λ a b. absurd (a refl);
   unspent = λ e. rw (none refl);
   spent = λ e. over refl;
-  unchanged = refl
+  unchanged = refl;
 }
 refused_post F next w reason PostMemory named none over = refused_memory F next (posting_refused reason) w
 
@@ -134,7 +134,7 @@ happened_so F next reason w none within = record {
   named = tt;
   unspent = λ e. cc;
   spent = λ e. cc;
-  unchanged = tt
+  unchanged = tt;
 }
 
 -- a client's step, entered in the ledger of a world, is the world's

@@ -56,4 +56,22 @@ pub record IsSound (w : WorldState) : Type 0 where
   pub clients_first : All (IsInFirstView w.shape) w.clients
   pub seqs_shaped : All (λ s. s.shape ≡ w.shape) w.seqs
   pub sent_early : All (IsEarly w.shape w.events) w.sent
+  pub uncrashed : w.crashed ≡ []
   pub within : IsWithinLimits w
+
+-- the holders of the log: the sequencing replicas of view 1 that aren't crashed
+abbrev pub holders_of : WorldState → List ℕ
+holders_of w = filter (λ node. not (has_node w.crashed node)) (first_seqs w.shape.seq)
+
+-- the bytes of an item, which are there in Erwin-m
+abbrev pub bytes_of : Option (List ℕ) → List ℕ
+bytes_of None = []
+bytes_of (Some bytes) = bytes
+
+-- the entry that an unbound item is in a line
+abbrev pub entry_of : Item → Entry
+entry_of item = Kept item.id (bytes_of item.bytes)
+
+-- the line of a replica, of which nothing is bound yet
+abbrev pub line_of : SeqState → List Entry
+line_of s = map entry_of s.pending

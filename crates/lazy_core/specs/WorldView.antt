@@ -12,7 +12,7 @@ world_of a = record {
   crashed = a.crashed.items;
   sent = a.ledger.sent;
   history = a.ledger.history;
-  events = a.ledger.events
+  events = a.ledger.events;
 }
 
 -- what a world keeps of itself: nothing but appends has happened

@@ -21,6 +21,7 @@ use rec_id::{Bytes, RecordId};
 
 /// For how many messages an event is tried at first, and how many times more at each further try.
 const FIRST_ROOM: u32 = 64;
+
 const ROOM_GROWTH: u32 = 16;
 
 impl World {

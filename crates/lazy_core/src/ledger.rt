@@ -41,9 +41,7 @@ impl Model for Ledger {
 
     ghost Value = { LedgerState };
 
-    ghost view = {
-        λ a. record { times = a.times.items; sent = a.sent.items; history = a.history.items; events = a.events; message_room = vec_capacity a.sent - vec_len a.sent; event_room = vec_capacity a.history - vec_len a.history }
-    };
+    ghost view = { λ a. record { times = a.times.items; sent = a.sent.items; history = a.history.items; events = a.events; message_room = vec_capacity a.sent - vec_len a.sent; event_room = vec_capacity a.history - vec_len a.history } };
 
     ghost invariant = { λ a. (a.weight ≡ sent_weight a.sent.items) × (a.weight ≤ weight_limit) };
 }

@@ -3,14 +3,15 @@
 #![tactic(auto)]
 
 mod append_client;
-
 mod event;
 mod ledger;
+mod line;
 mod sending;
 mod seq_node;
 mod world;
 
 pub use append_client::{AppendClient, AppendState};
-pub use seq_node::SeqNode;
 pub use ledger::WEIGHT_LIMIT;
+pub use line::LineError;
+pub use seq_node::SeqNode;
 pub use world::{MESSAGES_LIMIT, World};

@@ -41,9 +41,7 @@ impl Model for SeqNode {
 
     ghost Value = { SeqState };
 
-    ghost view = {
-        λ a. record { shape = a.shape; node = a.node; view = a.view; config = a.config; sealed = a.sealed; barred = a.barred; bound = a.bound; window = a.window; pending = a.pending.items; flight = []; probes = [] }
-    };
+    ghost view = { λ a. record { shape = a.shape; node = a.node; view = a.view; config = a.config; sealed = a.sealed; barred = a.barred; bound = a.bound; window = a.window; pending = a.pending.items; flight = []; probes = [] } };
 
     ghost invariant = { λ a. length a.window ≡ a.shape.clients };
 }

@@ -7,5 +7,5 @@ abbrev pub invariant-loop-to : goal.invariant-loop-to
 invariant-loop-to l = record {
   sent : l.sent.items ≡ l.initial.sent.items ++ enveloped l.from l.time l.yielded;
   whole : l.yielded ++ into_iter_items l.to-iterator ≡ l.fn.sends;
-  room : vec_len l.sent + length (into_iter_items l.to-iterator) ≤ vec_capacity l.sent
+  room : vec_len l.sent + length (into_iter_items l.to-iterator) ≤ vec_capacity l.sent;
 }

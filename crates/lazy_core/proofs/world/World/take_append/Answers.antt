@@ -14,8 +14,8 @@ pub returns-in_err-append : goal.returns-in_err-append
 returns-in_err-append c =
     rw (← c.self.view_is)
     (λ seq there.
-      seq_refused (world_of c.self.inside) c.args.envelope.now.to (c.args.envelope.now.to - 257) c.args.room c.args.envelope.now.time (λ (s : SeqState). seq_took s c.args.envelope.now.from (Append c.args.view c.args.id c.args.bytes.now)) seq c.index_mut-seq.result.now c.append.new.self c.in_ok-out.out c.append.new.out c.self.inside.ledger c.outbox.new.self c.from_residual-in_err-append.result c.in_err-append.field-0.0
-      there c.index_mut-seq.ensures.value c.in_ok-out.ensures.outbox c.in_err-append.ensures refl refl refl refl c.outbox.ensures.kept c.from_residual-in_err-append.ensures.1)
+    seq_refused (world_of c.self.inside) c.args.envelope.now.to (c.args.envelope.now.to - 257) c.args.room c.args.envelope.now.time (λ (s : SeqState). seq_took s c.args.envelope.now.from (Append c.args.view c.args.id c.args.bytes.now)) seq c.index_mut-seq.result.now c.append.new.self c.in_ok-out.out c.append.new.out c.self.inside.ledger c.outbox.new.self c.from_residual-in_err-append.result c.in_err-append.field-0.0
+    there c.index_mut-seq.ensures.value c.in_ok-out.ensures.outbox c.in_err-append.ensures refl refl refl refl c.outbox.ensures.kept c.from_residual-in_err-append.ensures.1)
 
 pub invariant_of-self-2 : goal.invariant_of-self-2
 invariant_of-self-2 c =
@@ -32,12 +32,12 @@ invariant_of-self-2 c =
     let few : length w.sent + c.args.room ≤ messages_limit = subst (λ (v : WorldState). length v.sent + c.args.room ≤ messages_limit) (sym c.self.view_is) c.requires.room in
     let within = seq_within w node i c.args.room received row held c.append.new.self c.in_ok-out.out c.append.new.out c.in_ok-out.ensures.outbox c.in_ok-append.ensures c.self.invariant.within.in_weight in
     rw (seq_made w node i c.args.room received row held c.append.new.self c.in_ok-out.out c.append.new.out c.self.inside.ledger c.outbox.new.self c.enter.new.self
-      c.in_ok-out.ensures.outbox c.in_ok-append.ensures refl refl refl refl c.outbox.ensures.kept c.enter.ensures)
+    c.in_ok-out.ensures.outbox c.in_ok-append.ensures refl refl refl refl c.outbox.ensures.kept c.enter.ensures)
     (append_sound w node i c.args.room received c.args.envelope.now.from c.args.view c.args.id c.args.bytes.now held c.self.invariant c.index_mut-seq.ensures.value there timed past few within)
 
 pub returns : goal.returns
 returns c =
     rw (← c.self.view_is)
     (λ seq there.
-      seq_happened (world_of c.self.inside) c.args.envelope.now.to (c.args.envelope.now.to - 257) c.args.room c.args.envelope.now.time (λ (s : SeqState). seq_took s c.args.envelope.now.from (Append c.args.view c.args.id c.args.bytes.now)) seq c.index_mut-seq.result.now c.append.new.self c.in_ok-out.out c.append.new.out c.self.inside.ledger c.outbox.new.self c.enter.new.self
-      there c.index_mut-seq.ensures.value c.in_ok-out.ensures.outbox c.in_ok-append.ensures c.self.invariant.within.in_weight refl refl refl refl c.outbox.ensures.kept c.enter.ensures)
+    seq_happened (world_of c.self.inside) c.args.envelope.now.to (c.args.envelope.now.to - 257) c.args.room c.args.envelope.now.time (λ (s : SeqState). seq_took s c.args.envelope.now.from (Append c.args.view c.args.id c.args.bytes.now)) seq c.index_mut-seq.result.now c.append.new.self c.in_ok-out.out c.append.new.out c.self.inside.ledger c.outbox.new.self c.enter.new.self
+    there c.index_mut-seq.ensures.value c.in_ok-out.ensures.outbox c.in_ok-append.ensures c.self.invariant.within.in_weight refl refl refl refl c.outbox.ensures.kept c.enter.ensures)

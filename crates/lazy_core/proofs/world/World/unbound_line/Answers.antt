@@ -1,0 +1,17 @@
+use Rattle.std.proofs.Common.{◌≡◌, Some, List, ◌-◌, ap, sym, subst, map, IfOk, ◌∙◌}
+use Rattle.std.specs.List.{slice_get}
+use Rattle.rec_id.specs.declared.item.Item.{Item}
+use Rattle.lazy_rules.specs.SeqState.{SeqState}
+use Rattle.lazy_rules.specs.WorldState.{WorldState}
+use Rattle.lazy_core.specs.Early.{entry_of}
+use Rattle.lazy_core.proofs.Steps.{held_there}
+use Rattle.lazy_core.proofs.world.World.unbound_line.Goals as goal
+
+pub returns : goal.returns
+returns c =
+    λ seq there.
+    let found : slice_get c.self.inside.seqs.items (c.args.node - 257) ≡ Some seq =
+    subst (λ (w : WorldState). slice_get w.seqs (c.args.node - 257) ≡ Some seq) (sym c.self.view_is) there in
+    let here : c.index-seq.result.now ≡ seq = held_there c.self.inside.seqs.items (c.args.node - 257) c.index-seq.result.now seq found c.index-seq.ensures in
+    let pending : c.pending.result.now ≡ seq.pending = c.pending.ensures ∙ ap (λ (s : SeqState). s.pending) here in
+    subst (λ (items : List Item). IfOk c.entries_of.result (λ line. line ≡ map entry_of items)) pending c.entries_of.ensures
