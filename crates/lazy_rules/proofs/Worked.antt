@@ -1,4 +1,4 @@
-use Rattle.std.proofs.Common.{◌≡◌, ℕ, List, [], ◌∷◌, ◌++◌, length, map, refl}
+use Rattle.std.proofs.Common.{◌≡◌, ℕ, List, [], ◌∷◌, length, map, refl}
 use Rattle.std.specs.List.{range_with_len}
 use Rattle.rec_id.specs.declared.event.Event.{Event}
 use Rattle.rec_id.specs.declared.event.Event.TheVariants.{Invoke, Acked}

@@ -1,8 +1,12 @@
 pub mod Rows
+pub mod Ids
+pub mod Roles
+pub mod Items
 pub mod Windows
 pub mod Door
 pub mod Flight
 pub mod SeqState
+pub mod Leading
 pub mod SeqRules
 pub mod ClientState
 pub mod ClientRules

@@ -1,4 +1,4 @@
-use Rattle.std.specs.Prelude.{ℕ, List, Bool, false, Option, Some, None, slice_get, slice_set}
+use Rattle.std.specs.Prelude.{ℕ, List, [], ◌∷◌, Bool, false, Option, Some, None, slice_get, slice_set}
 use Rattle.rec_id.specs.Identity.{Identity}
 use Rattle.rec_id.specs.Marks.{is_seen, mark}
 use Rattle.rec_id.specs.declared.marks.Marks.{Marks}
@@ -20,3 +20,8 @@ marked_by window client (Some marks) number = slice_set window client (mark mark
 -- the window with one identity more
 abbrev pub marked_in : List Marks → Identity → List Marks
 marked_in window id = marked_by window id.client (slice_get window id.client) id.number
+
+-- the window with these identities more, one after the other
+abbrev pub marked_all : List Marks → List Identity → List Marks
+marked_all window [] = window
+marked_all window (id ∷ ids) = marked_all (marked_in window id) ids

@@ -1,7 +1,7 @@
-use Rattle.std.specs.Prelude.{ℕ, ◌+◌, ◌-◌, ◌≤◌, List, [], ◌∷◌, ◌++◌, length, map, max, sum_by, Bool, ◌||◌, ◌==◌, nat_lt, if◌then◌else◌, Option, Some, None, slice_get, slice_set, slice_index}
+use Rattle.std.specs.Prelude.{ℕ, ◌+◌, ◌-◌, ◌≤◌, List, [], ◌∷◌, ◌++◌, length, map, max, sum_by, ◌==◌, if◌then◌else◌, Option, Some, None, slice_get, slice_set, slice_index}
 use Rattle.rec_id.specs.declared.event.Event.{Event}
 use Rattle.view_config.specs.declared.nodes.Node.{Node}
-use Rattle.view_config.specs.declared.nodes.Node.TheVariants.{Client, Controller, Seq, Shard}
+use Rattle.view_config.specs.declared.nodes.Node.TheVariants.{Client, Seq}
 use Rattle.view_config.specs.Shape.{node_of}
 use Rattle.lazy_msgs.specs.declared.input.WorldEvent.{WorldEvent}
 use Rattle.lazy_msgs.specs.declared.input.WorldEvent.TheVariants.{Post, Deliver}
