@@ -7,6 +7,10 @@ pub mod Door
 pub mod Flight
 pub mod SeqState
 pub mod Leading
+pub mod Store
+pub mod ShardState
+pub mod Pushing
+pub mod ShardRules
 pub mod SeqRules
 pub mod ClientState
 pub mod ClientRules

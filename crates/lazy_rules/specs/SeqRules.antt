@@ -99,13 +99,18 @@ with_bound s ids = record s {
 }
 
 -- Order: a follower binds what is next, and says again what it has bound before
+abbrev pub binds : SeqState → ℕ → ℕ → List Identity → Row SeqState
+binds s from view ids =
+    if nat_lt (s.bound + length ids) (2 ^ 32)
+    then answers (with_bound s ids) from (Ordered view (s.bound + length ids))
+    else stays s
+
 abbrev pub on_order : SeqState → ℕ → ℕ → ℕ → List Identity → Row SeqState
 on_order s from view place ids =
     if not (is_following s view) then stays s
-    else (if not (nat_lt (place + length ids) (2 ^ 32)) then stays s
-    else (if place == s.bound then answers (with_bound s ids) from (Ordered view (s.bound + length ids))
+    else (if place == s.bound then binds s from view ids
     else (if nat_le (place + length ids) s.bound then answers s from (Ordered view (place + length ids))
-    else stays s)))
+    else stays s))
 
 -- a probe is kept until all that the leader knows now is bound
 abbrev pub with_waiting : SeqState → ℕ → ℕ → SeqState
