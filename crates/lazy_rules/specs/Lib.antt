@@ -14,5 +14,6 @@ pub mod ShardRules
 pub mod SeqRules
 pub mod ClientState
 pub mod ClientRules
+pub mod ClientNode
 pub mod WorldState
 pub mod WorldRules
