@@ -66,7 +66,7 @@ abbrev pub invokes : ClientState → List ℕ → Row ClientState
 invokes c bytes = record {
   next = record c { next = c.next + 1; unfinished = c.unfinished ++ begun c bytes ∷ [] };
   sends = sending c (begun c bytes);
-  events = Invoke (id_of c c.next) bytes ∷ []
+  events = Invoke (id_of c c.next) bytes ∷ [];
 }
 
 -- the append with one more node that acknowledged it
@@ -85,7 +85,7 @@ abbrev pub finishes : ClientState → ℕ → OpenAppend → Row ClientState
 finishes c i append = record {
   next = record c { unfinished = remove c.unfinished i };
   sends = [];
-  events = Acked (id_of c append.number) ∷ []
+  events = Acked (id_of c append.number) ∷ [];
 }
 
 -- the append at place i has been acknowledged by one node more
@@ -128,7 +128,7 @@ rejects c id place None = stays c
 rejects c id place (Some i) = record {
   next = record c { unfinished = remove c.unfinished i };
   sends = [];
-  events = RejectedEvent id place ∷ []
+  events = RejectedEvent id place ∷ [];
 }
 
 abbrev pub on_rejected : ClientState → Identity → ℕ → Row ClientState

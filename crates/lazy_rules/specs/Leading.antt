@@ -77,7 +77,7 @@ without_first s batch others = record s {
   bound = s.bound + batch.count;
   pending = drop batch.count s.pending;
   flight = others;
-  probes = waiting_probes (s.bound + batch.count) s.probes
+  probes = waiting_probes (s.bound + batch.count) s.probes;
 }
 
 -- the bound position for all shard replicas

@@ -50,16 +50,16 @@ abbrev pub pushes_place : ShardState → PlaceJob → Row ShardState
 pushes_place s job =
     if has_open_below s.store job.end then stays s
     else followed
-      (sends_all s (to_each (lagging s job.end) (Copy s.view job.from (slice_range s.store.order job.from job.end))))
-      settles
+    (sends_all s (to_each (lagging s job.end) (Copy s.view job.from (slice_range s.store.order job.from job.end))))
+    settles
 
 -- PUSH of a Flush job: the flushed cells for the backups that lack them, unless a cell is open
 abbrev pub pushes_flush : ShardState → FlushJob → Row ShardState
 pushes_flush s job =
     if has_open s.store then stays s
     else followed
-      (sends_all s (to_each (lagging s (length_of s)) (FlushCopy s.view job.from (drop job.from s.store.order))))
-      settles
+    (sends_all s (to_each (lagging s (length_of s)) (FlushCopy s.view job.from (drop job.from s.store.order))))
+    settles
 
 -- PUSH of a Flush job, if there is one
 abbrev pub pushes_any_flush : ShardState → Option FlushJob → Row ShardState

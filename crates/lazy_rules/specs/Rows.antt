@@ -20,7 +20,7 @@ abbrev pub joined : {S : Type 0} → Row S → Row S → Row S
 joined first second = record {
   next = second.next;
   sends = first.sends ++ second.sends;
-  events = first.events ++ second.events
+  events = first.events ++ second.events;
 }
 
 abbrev pub followed : {S : Type 0} → Row S → (S → Row S) → Row S

@@ -51,7 +51,7 @@ has_room s = nat_lt (length s.pending) pending_limit && nat_lt (s.bound + length
 abbrev pub with_item : SeqState → Identity → Option (List ℕ) → SeqState
 with_item s id bytes = record s {
   pending = s.pending ++ record { id = id; bytes = bytes } ∷ [];
-  window = marked_in s.window id
+  window = marked_in s.window id;
 }
 
 -- Append: a known identity is acknowledged again, a new one is taken and acknowledged
@@ -95,7 +95,7 @@ abbrev pub with_bound : SeqState → List Identity → SeqState
 with_bound s ids = record s {
   bound = s.bound + length ids;
   pending = filter (λ item. not (has_id ids item.id)) s.pending;
-  window = marked_all s.window ids
+  window = marked_all s.window ids;
 }
 
 -- Order: a follower binds what is next, and says again what it has bound before
@@ -115,7 +115,7 @@ on_order s from view place ids =
 -- a probe is kept until all that the leader knows now is bound
 abbrev pub with_waiting : SeqState → ℕ → ℕ → SeqState
 with_waiting s client read = record s {
-  probes = with_probe s.probes (record { client = client; read = read; target = s.bound + length s.pending })
+  probes = with_probe s.probes (record { client = client; read = read; target = s.bound + length s.pending });
 }
 
 -- where no probe of this client for this read or a later one waits, one does from now on
@@ -151,7 +151,7 @@ in_view s config base window = record s {
   window = window;
   pending = [];
   flight = [];
-  probes = []
+  probes = [];
 }
 
 -- a replica that took a view says so, and the view's leader tells its base to all shard replicas

@@ -51,5 +51,5 @@ first_seq shape i = record {
   window = empty_window shape;
   pending = [];
   flight = [];
-  probes = []
+  probes = [];
 }

@@ -124,8 +124,8 @@ finds_noop s sender id bytes place =
 abbrev pub fills : ShardState → ℕ → Identity → List ℕ → ℕ → Row ShardState
 fills s sender id bytes place =
     followed
-      (answers (with_store s (fill s.store place bytes)) sender (DataAck s.view id))
-      (λ after. pushes_above after place)
+    (answers (with_store s (fill s.store place bytes)) sender (DataAck s.view id))
+    (λ after. pushes_above after place)
 
 -- Put, of any other record: its data is held where it isn't there, and it is acknowledged
 abbrev pub holds : ShardState → ℕ → Identity → List ℕ → Row ShardState
@@ -172,7 +172,7 @@ flushed s sender config from items = record s {
   backups = backups_of (replicas_at config s.store.shard);
   store = recut s.store from items;
   jobs = [];
-  flush = Some (record { from = from; asker = sender })
+  flush = Some (record { from = from; asker = sender });
 }
 
 -- Flush, of the own view: it is pushed again, or answered again where it ended
@@ -188,7 +188,7 @@ abbrev pub on_flush : ShardState → ℕ → Config → ℕ → List Item → Ro
 on_flush s sender config from items =
     if s.view == config.view then flushes_again s sender s.flush
     else (if nat_lt s.view config.view && is_flushed_by s config from items
-      then pushes_flush (flushed s sender config from items) (record { from = from; asker = sender })
+    then pushes_flush (flushed s sender config from items) (record { from = from; asker = sender })
     else stays s)
 
 -- FlushCopy: a replica becomes a backup of a higher view with the flushed order, and says again what
@@ -200,7 +200,7 @@ flush_copied s view from cells = record s {
   backups = [];
   store = recut_cells s.store from cells;
   jobs = [];
-  flush = None
+  flush = None;
 }
 
 abbrev pub on_flush_copy : ShardState → ℕ → ℕ → ℕ → List Cell → Row ShardState
@@ -208,7 +208,7 @@ on_flush_copy s sender view from cells =
     if nat_lt s.view view && is_cut_at s from && has_places from (length cells)
     then answers (flush_copied s view from cells) sender (Copied view (from + length cells))
     else (if is_backup s view && nat_le (from + length cells) (length_of s)
-      then answers s sender (Copied view (from + length cells))
+    then answers s sender (Copied view (from + length cells))
     else stays s)
 
 -- Trim: data below the floor is given up, as far as the order is final

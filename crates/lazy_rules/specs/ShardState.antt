@@ -57,5 +57,5 @@ first_shard shape i j = record {
   backups = first_backups (first_copies shape.copies i) j;
   store = new_store shape.mode i shape.shards;
   jobs = [];
-  flush = None
+  flush = None;
 }

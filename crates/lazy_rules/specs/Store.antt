@@ -33,7 +33,7 @@ new_store mode shard shards = record {
   order = [];
   held = [];
   stable = 0;
-  floor = 0
+  floor = 0;
 }
 
 abbrev pub is_noop : Body → Bool
@@ -135,7 +135,7 @@ held_beside _ held id = held
 abbrev pub with_cell : Store → Cell → Store
 with_cell store cell = record store {
   order = store.order ++ cell ∷ [];
-  held = held_beside cell.body store.held cell.id
+  held = held_beside cell.body store.held cell.id;
 }
 
 -- the order with cells as given
@@ -156,7 +156,7 @@ with_body order place body (Some cell) = slice_set order place (record cell { bo
 -- the data of an open cell has come
 abbrev pub fill : Store → ℕ → List ℕ → Store
 fill store place bytes = record store {
-  order = with_body store.order place (Kept bytes) (slice_get store.order place)
+  order = with_body store.order place (Kept bytes) (slice_get store.order place);
 }
 
 -- all open cells become no-ops, so many
@@ -235,5 +235,5 @@ given_up_cell cell = record cell { body = given_up cell.body }
 abbrev pub trim : Store → ℕ → Store
 trim store to = record store {
   order = map given_up_cell (take (max store.floor to) store.order) ++ drop (max store.floor to) store.order;
-  floor = max store.floor to
+  floor = max store.floor to;
 }

@@ -1,4 +1,4 @@
-use Rattle.std.specs.Prelude.{ℕ, List, [], ◌∷◌, Bool, false, Option, Some, None, slice_get, slice_set}
+use Rattle.std.specs.Prelude.{ℕ, max, List, [], ◌∷◌, Bool, false, ◌==◌, if◌then◌else◌, Option, Some, None, slice_get, slice_set}
 use Rattle.rec_id.specs.Identity.{Identity}
 use Rattle.rec_id.specs.Marks.{is_seen, mark}
 use Rattle.rec_id.specs.declared.marks.Marks.{Marks}
@@ -25,3 +25,8 @@ marked_in window id = marked_by window id.client (slice_get window id.client) id
 abbrev pub marked_all : List Marks → List Identity → List Marks
 marked_all window [] = window
 marked_all window (id ∷ ids) = marked_all (marked_in window id) ids
+
+-- the greatest of the client's numbers among these, 0 where it has none
+abbrev pub top_of : List Identity → ℕ → ℕ
+top_of [] client = 0
+top_of (id ∷ ids) client = if id.client == client then max id.number (top_of ids client) else top_of ids client

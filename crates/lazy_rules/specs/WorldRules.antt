@@ -46,7 +46,7 @@ stepped w node received sends told = record w {
   times = slice_set w.times node (step_time w node received);
   sent = w.sent ++ enveloped node (step_time w node received) sends;
   history = w.history ++ told;
-  events = w.events + 1
+  events = w.events + 1;
 }
 
 -- the world after a step of client c
@@ -142,8 +142,8 @@ abbrev pub peeked : WorldState → ℕ → ℕ → ℕ → Option Envelope → W
 peeked w c from to None = w
 peeked w c from to (Some envelope) =
     client_given w c
-      (PeekInput (claimed envelope.msg) from (ids_at w from to (node_of w.shape envelope.from)))
-      (slice_get w.clients c)
+    (PeekInput (claimed envelope.msg) from (ids_at w from to (node_of w.shape envelope.from)))
+    (slice_get w.clients c)
 
 -- Crash
 abbrev pub crashes : WorldState → ℕ → WorldState

@@ -46,5 +46,5 @@ first_world shape = record {
   crashed = [];
   sent = [];
   history = [];
-  events = 0
+  events = 0;
 }
