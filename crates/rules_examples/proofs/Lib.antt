@@ -1,3 +1,4 @@
 pub mod Shows
 pub mod Appends
 pub mod Bindings
+pub mod Views

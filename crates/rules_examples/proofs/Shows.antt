@@ -12,6 +12,7 @@ use Rattle.lazy_msgs.specs.declared.input.WorldEvent.{WorldEvent}
 use Rattle.lazy_msgs.specs.declared.input.WorldEvent.TheVariants.{Deliver}
 use Rattle.lazy_msgs.specs.declared.msg.Envelope.{Envelope}
 use Rattle.lazy_msgs.specs.declared.msg.Msg.{Msg}
+use Rattle.lazy_msgs.specs.Step.{Row}
 use Rattle.lazy_rules.specs.SeqState.{SeqState}
 use Rattle.lazy_rules.specs.ShardState.{ShardState}
 use Rattle.lazy_rules.specs.WorldState.{WorldState, first_world}
@@ -106,3 +107,24 @@ abbrev pub tells : Dimensions → List WorldEvent → ℕ → Told
 tells shape events first =
     let w = ran shape events in
     record { shown = shown w; later = map msg_of (drop first w.sent) }
+
+-- what a node sends in each of several steps, and what it is then
+pub record Replies (S : Type 0) : Type 0 where
+  pub last : S
+  pub sends : List (List (ℕ × Msg))
+
+abbrev pub replied : {S : Type 0} → List (ℕ × Msg) → Replies S → Replies S
+replied sends rest = record { last = rest.last; sends = sends ∷ rest.sends }
+
+abbrev pub replies : {S : Type 0} → (S → ℕ → Msg → Row S) → S → List (ℕ × Msg) → Replies S
+replies took s [] = record { last = s; sends = [] }
+replies took s (one ∷ others) = replied (took s one.0 one.1).sends (replies took (took s one.0 one.1).next others)
+
+-- the state after all of them
+abbrev pub after_all : {S : Type 0} → (S → ℕ → Msg → Row S) → S → List (ℕ × Msg) → S
+after_all took s [] = s
+after_all took s (one ∷ others) = after_all took (took s one.0 one.1).next others
+
+-- the sends alone
+abbrev pub sends_of : {S : Type 0} → (S → ℕ → Msg → Row S) → S → List (ℕ × Msg) → List (List (ℕ × Msg))
+sends_of took s msgs = (replies took s msgs).sends
