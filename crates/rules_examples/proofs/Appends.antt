@@ -12,10 +12,10 @@ pub acknowledged_unbound : leads (shape_of M 3 1 1 1) (Post 0 (97 ∷ []) ∷ fl
   messages = 6;
   events = 7;
   seqs = record { bound = 0; pending = item 0 1 97 ∷ [] }
-    ∷ record { bound = 0; pending = item 0 1 97 ∷ [] }
-    ∷ record { bound = 0; pending = item 0 1 97 ∷ [] }
-    ∷ [];
-  shards = no_shard ∷ []
+      ∷ record { bound = 0; pending = item 0 1 97 ∷ [] }
+      ∷ record { bound = 0; pending = item 0 1 97 ∷ [] }
+      ∷ [];
+  shards = no_shard ∷ [];
 }
 acknowledged_unbound = refl
 
@@ -25,7 +25,7 @@ pub delivered_again : leads (shape_of M 3 1 1 1) (Post 0 (97 ∷ []) ∷ Deliver
   messages = 8;
   events = 6;
   seqs = record { bound = 0; pending = item 0 1 97 ∷ [] } ∷ no_seq ∷ no_seq ∷ [];
-  shards = no_shard ∷ []
+  shards = no_shard ∷ [];
 }
 delivered_again = refl
 
@@ -35,8 +35,8 @@ pub repeated_after_a_later_one : leads (shape_of M 2 1 1 2) (Post 0 (97 ∷ []) 
   messages = 8;
   events = 8;
   seqs = record { bound = 0; pending = item 0 1 97 ∷ [] }
-    ∷ record { bound = 0; pending = item 0 1 97 ∷ item 1 1 98 ∷ [] }
-    ∷ [];
-  shards = no_shard ∷ []
+      ∷ record { bound = 0; pending = item 0 1 97 ∷ item 1 1 98 ∷ [] }
+      ∷ [];
+  shards = no_shard ∷ [];
 }
 repeated_after_a_later_one = refl

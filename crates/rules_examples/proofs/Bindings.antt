@@ -16,7 +16,7 @@ pub bound_within_one_view : leads (shape_of M 3 1 1 1) (Post 0 (97 ∷ []) ∷ f
   messages = 14;
   events = 15;
   seqs = record { bound = 1; pending = [] } ∷ record { bound = 1; pending = [] } ∷ record { bound = 1; pending = [] } ∷ [];
-  shards = record { order = cell 0 1 (Kept (97 ∷ [])) ∷ []; stable = 1 } ∷ []
+  shards = record { order = cell 0 1 (Kept (97 ∷ [])) ∷ []; stable = 1 } ∷ [];
 }
 bound_within_one_view = refl
 
@@ -27,9 +27,9 @@ pub not_stable_before_every_answer : tells (shape_of M 3 1 1 1) (Post 0 (97 ∷ 
     messages = 12;
     events = 13;
     seqs = record { bound = 0; pending = item 0 1 97 ∷ [] } ∷ record { bound = 1; pending = [] } ∷ record { bound = 1; pending = [] } ∷ [];
-    shards = record { order = cell 0 1 (Kept (97 ∷ [])) ∷ []; stable = 0 } ∷ []
+    shards = record { order = cell 0 1 (Kept (97 ∷ [])) ∷ []; stable = 0 } ∷ [];
   };
-  later = Ordered 1 1 ∷ Ordered 1 1 ∷ []
+  later = Ordered 1 1 ∷ Ordered 1 1 ∷ [];
 }
 not_stable_before_every_answer = refl
 
@@ -41,21 +41,21 @@ pub placed_again : tells (shape_of M 2 1 2 1) (Post 0 (97 ∷ []) ∷ flow 1 4 +
     events = 17;
     seqs = record { bound = 1; pending = [] } ∷ record { bound = 1; pending = [] } ∷ [];
     shards = record { order = cell 0 1 (Kept (97 ∷ [])) ∷ []; stable = 1 }
-      ∷ record { order = cell 0 1 (Kept (97 ∷ [])) ∷ []; stable = 1 }
-      ∷ []
+        ∷ record { order = cell 0 1 (Kept (97 ∷ [])) ∷ []; stable = 1 }
+        ∷ [];
   };
   later = Copy 1 0 (cell 0 1 (Kept (97 ∷ [])) ∷ [])
-    ∷ Copy 1 0 (cell 0 1 (Kept (97 ∷ [])) ∷ [])
-    ∷ Copied 1 1
-    ∷ Copied 1 1
-    ∷ Placed 1 1
-    ∷ Order 1 0 (c# 0 1 ∷ [])
-    ∷ Ordered 1 1
-    ∷ Stable 1 1
-    ∷ Stable 1 1
-    ∷ Claim 1
-    ∷ Claim 1
-    ∷ []
+      ∷ Copy 1 0 (cell 0 1 (Kept (97 ∷ [])) ∷ [])
+      ∷ Copied 1 1
+      ∷ Copied 1 1
+      ∷ Placed 1 1
+      ∷ Order 1 0 (c# 0 1 ∷ [])
+      ∷ Ordered 1 1
+      ∷ Stable 1 1
+      ∷ Stable 1 1
+      ∷ Claim 1
+      ∷ Claim 1
+      ∷ [];
 }
 placed_again = refl
 
@@ -65,9 +65,9 @@ pub opposite_orders : leads (shape_of M 2 1 1 2) (Post 0 (97 ∷ []) ∷ Post 1 
   messages = 8;
   events = 6;
   seqs = record { bound = 0; pending = item 1 1 98 ∷ item 0 1 97 ∷ [] }
-    ∷ record { bound = 0; pending = item 0 1 97 ∷ item 1 1 98 ∷ [] }
-    ∷ [];
-  shards = record { order = []; stable = 0 } ∷ []
+      ∷ record { bound = 0; pending = item 0 1 97 ∷ item 1 1 98 ∷ [] }
+      ∷ [];
+  shards = record { order = []; stable = 0 } ∷ [];
 }
 opposite_orders = refl
 
@@ -76,7 +76,7 @@ pub opposite_orders_bound : leads (shape_of M 2 1 1 2) (Post 0 (97 ∷ []) ∷ P
   messages = 14;
   events = 16;
   seqs = record { bound = 2; pending = [] } ∷ record { bound = 2; pending = [] } ∷ [];
-  shards = record { order = cell 1 1 (Kept (98 ∷ [])) ∷ cell 0 1 (Kept (97 ∷ [])) ∷ []; stable = 2 } ∷ []
+  shards = record { order = cell 1 1 (Kept (98 ∷ [])) ∷ cell 0 1 (Kept (97 ∷ [])) ∷ []; stable = 2 } ∷ [];
 }
 opposite_orders_bound = refl
 
@@ -87,9 +87,9 @@ pub two_batches_in_flight : tells (shape_of M 1 1 1 1) (replicate 65 (Post 0 [])
     messages = 138;
     events = 137;
     seqs = record { bound = 65; pending = [] } ∷ [];
-    shards = record { order = map (λ n. cell 0 n (Kept [])) (range_with_len 1 65); stable = 65 } ∷ []
+    shards = record { order = map (λ n. cell 0 n (Kept [])) (range_with_len 1 65); stable = 65 } ∷ [];
   };
-  later = Placed 1 64 ∷ Placed 1 65 ∷ Stable 1 64 ∷ Stable 1 65 ∷ Claim 65 ∷ []
+  later = Placed 1 64 ∷ Placed 1 65 ∷ Stable 1 64 ∷ Stable 1 65 ∷ Claim 65 ∷ [];
 }
 two_batches_in_flight = refl
 
@@ -100,8 +100,8 @@ pub stable_noop : tells (shape_of St 1 1 1 1) (Post 0 (97 ∷ []) ∷ Deliver 2 
     messages = 8;
     events = 9;
     seqs = record { bound = 1; pending = [] } ∷ [];
-    shards = record { order = cell 0 1 Noop ∷ []; stable = 1 } ∷ []
+    shards = record { order = cell 0 1 Noop ∷ []; stable = 1 } ∷ [];
   };
-  later = Placed 1 1 ∷ Stable 1 1 ∷ Claim 1 ∷ Rejected (c# 0 1) 0 ∷ []
+  later = Placed 1 1 ∷ Stable 1 1 ∷ Claim 1 ∷ Rejected (c# 0 1) 0 ∷ [];
 }
 stable_noop = refl

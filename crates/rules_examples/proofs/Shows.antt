@@ -1,4 +1,4 @@
-use Rattle.std.proofs.Common.{ℕ, ◌+◌, List, [], ◌∷◌, ◌++◌, length, map, drop, Some}
+use Rattle.std.proofs.Common.{ℕ, List, [], ◌∷◌, length, map, drop, Some}
 use Rattle.std.specs.List.{range_with_len}
 use Rattle.rec_id.specs.Identity.{Identity}
 use Rattle.rec_id.specs.declared.event.Event.{Event}
@@ -33,7 +33,7 @@ shape_of mode seq shards copies clients = record {
   spares = 0;
   shards = shards;
   copies = copies;
-  clients = clients
+  clients = clients;
 }
 
 -- a cell
@@ -78,7 +78,7 @@ shown w = record {
   messages = length w.sent;
   events = w.events;
   seqs = map seq_shown w.seqs;
-  shards = map shard_shown w.shards
+  shards = map shard_shown w.shards;
 }
 
 -- the run from the first world of a shape
@@ -128,3 +128,8 @@ after_all took s (one ∷ others) = after_all took (took s one.0 one.1).next oth
 -- the sends alone
 abbrev pub sends_of : {S : Type 0} → (S → ℕ → Msg → Row S) → S → List (ℕ × Msg) → List (List (ℕ × Msg))
 sends_of took s msgs = (replies took s msgs).sends
+
+-- what is told in each of several steps
+abbrev pub told_of : {S : Type 0} → (S → ℕ → Msg → Row S) → S → List (ℕ × Msg) → List (List Event)
+told_of took s [] = []
+told_of took s (one ∷ others) = (took s one.0 one.1).events ∷ told_of took (took s one.0 one.1).next others
