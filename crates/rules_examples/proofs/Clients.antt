@@ -13,7 +13,7 @@ use Rattle.lazy_rules.specs.SeqRules.{seq_took}
 use Rattle.lazy_rules.specs.SeqState.{first_seq}
 use Rattle.lazy_rules.specs.WorldRules.{refusal}
 use Rattle.lazy_rules.specs.WorldState.{WorldState}
-use Rattle.rules_examples.proofs.Shows.{c#, shape_of, item, flow, ran, sends_of, told_of, after_all}
+use Rattle.rules_examples.proofs.Shows.{c#, shape_of, item, flow, ran, sends_of, told_of, after_all, seq_shown}
 
 -- What clients send again, what reads force, and what a world refuses.
 
@@ -90,6 +90,10 @@ pub ordered_in_turn : sends_of seq_took (first_seq (shape_of M 2 1 1 1) 1)
     ∷ ((0, AppendAck 1 (c# 0 2)) ∷ [])
     ∷ []
 ordered_in_turn = refl
+
+-- a record that it was told of only in an order is known to it too, and isn't added
+pub known_by_its_order : seq_shown (after_all seq_took (first_seq (shape_of M 2 1 1 1) 1) ((257, Order 1 0 (c# 0 1 ∷ [])) ∷ (0, Append 1 (c# 0 1) (Some [])) ∷ [])) ≡ record { bound = 1; pending = [] }
+known_by_its_order = refl
 
 -- a world with one record that is final, and a crashed replica
 abbrev pub bound : WorldState
