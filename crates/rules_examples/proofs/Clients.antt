@@ -46,8 +46,8 @@ acknowledged_in_a_later_view = refl
 pub sent_on_a_tick : (on_node_tick (after_all client_took posted ((258, AppendAck 1 (c# 0 1)) ∷ []))).sends ≡ (264, Put (c# 0 1) (97 ∷ [])) ∷ (257, Append 1 (c# 0 1) None) ∷ (256, AskView) ∷ []
 sent_on_a_tick = refl
 
--- reads force what the leader knows when they come: batches begin, and each read is answered once its
--- target is bound; a later read of a client takes the place of its earlier one
+-- reads force what the leader knows when they come: batches begin, pass in their order, and each read
+-- is answered once its target is bound; a later read of a client takes the place of its earlier one
 pub forced_by_reads : sends_of seq_took (first_seq (shape_of M 2 1 1 2) 0)
     ((0, Append 1 (c# 0 1) (Some (97 ∷ [])))
     ∷ (1, Probe 1 1)
@@ -55,8 +55,8 @@ pub forced_by_reads : sends_of seq_took (first_seq (shape_of M 2 1 1 2) 0)
     ∷ (1, Probe 1 1)
     ∷ (0, Probe 1 5)
     ∷ (1, Probe 1 2)
-    ∷ (264, Placed 1 1)
     ∷ (264, Placed 1 2)
+    ∷ (264, Placed 1 1)
     ∷ (258, Ordered 1 2)
     ∷ (258, Ordered 1 1)
     ∷ (0, Probe 1 6)
@@ -66,8 +66,8 @@ pub forced_by_reads : sends_of seq_took (first_seq (shape_of M 2 1 1 2) 0)
     ∷ ((1, ProbeAck 1 1) ∷ [])
     ∷ ((0, ProbeAck 1 5) ∷ (264, Place 1 1 (item 0 2 98 ∷ [])) ∷ [])
     ∷ ((1, ProbeAck 1 2) ∷ [])
-    ∷ ((258, Order 1 0 (c# 0 1 ∷ [])) ∷ [])
-    ∷ ((258, Order 1 1 (c# 0 2 ∷ [])) ∷ [])
+    ∷ []
+    ∷ ((258, Order 1 0 (c# 0 1 ∷ [])) ∷ (258, Order 1 1 (c# 0 2 ∷ [])) ∷ [])
     ∷ []
     ∷ ((264, Stable 1 1) ∷ (264, Stable 1 2) ∷ (1, TailReady 1 2 2) ∷ (0, TailReady 1 5 2) ∷ [])
     ∷ ((0, ProbeAck 1 6) ∷ (264, Stable 1 2) ∷ (0, TailReady 1 6 2) ∷ [])

@@ -11,7 +11,7 @@ use Rattle.lazy_msgs.specs.declared.msg.Msg.TheVariants.{Put, DataAck, Rejected,
 use Rattle.lazy_rules.specs.ShardRules.{shard_took, on_grace}
 use Rattle.lazy_rules.specs.ShardState.{ShardState, first_shard}
 use Rattle.lazy_rules.specs.Store.{Store, new_store, hold, has, noop_at, extend, open_to_noop, open_count, cut}
-use Rattle.rules_examples.proofs.Shows.{c#, shape_of, cell, tells, sends_of, after_all, shard_shown}
+use Rattle.rules_examples.proofs.Shows.{c#, shape_of, cell, tells, sends_of, after_all}
 
 -- Data that comes by itself, and data that is given up.
 
@@ -141,6 +141,14 @@ pub given_up : sends_of shard_took (first_shard (shape_of St 1 1 1 1) 0 0)
     ∷ []
 given_up = refl
 
-pub given_up_order : shard_shown (after_all shard_took (first_shard (shape_of St 1 1 1 1) 0 0)
-    ((0, Put (c# 0 1) (97 ∷ [])) ∷ (257, Place 1 0 (bare 0 1 ∷ [])) ∷ (257, Stable 1 1) ∷ (0, Trim 1 1) ∷ (0, Put (c# 0 1) (97 ∷ [])) ∷ [])) ≡ record { order = cell 0 1 Gone ∷ []; stable = 1 }
-given_up_order = refl
+pub given_up_stays : (after_all shard_took (first_shard (shape_of St 1 1 1 1) 0 0)
+    ((0, Put (c# 0 1) (97 ∷ [])) ∷ (257, Place 1 0 (bare 0 1 ∷ [])) ∷ (257, Stable 1 1) ∷ (0, Trim 1 1) ∷ (0, Put (c# 0 1) (97 ∷ [])) ∷ [])).store ≡ record {
+      mode = St;
+      shard = 0;
+      shards = 1;
+      order = cell 0 1 Gone ∷ [];
+      held = [];
+      stable = 1;
+      floor = 1;
+    }
+given_up_stays = refl
