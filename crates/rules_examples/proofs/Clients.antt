@@ -1,5 +1,6 @@
-use Rattle.std.proofs.Common.{◌≡◌, [], ◌∷◌, ◌++◌, Some, None, refl}
+use Rattle.std.proofs.Common.{◌≡◌, ℕ, [], ◌∷◌, ◌++◌, Some, None, refl}
 use Rattle.std.specs.Prelude.{map}
+use Rattle.std.specs.List.{range_with_len}
 use Rattle.rec_id.specs.declared.event.Event.TheVariants.{Invoke, Acked, Seen}
 use Rattle.view_config.specs.declared.config.Config.{Config}
 use Rattle.view_config.specs.declared.edition.Mode.TheVariants.{M, St}
@@ -9,8 +10,9 @@ use Rattle.lazy_msgs.specs.declared.refused.EventRefused.TheVariants.{NoNode, No
 use Rattle.lazy_rules.specs.ClientRules.{client_took, invokes}
 use Rattle.lazy_rules.specs.ClientNode.{on_node_tick}
 use Rattle.lazy_rules.specs.ClientState.{ClientState, first_client}
-use Rattle.lazy_rules.specs.SeqRules.{seq_took}
-use Rattle.lazy_rules.specs.SeqState.{first_seq}
+use Rattle.lazy_rules.specs.Flight.{Batch}
+use Rattle.lazy_rules.specs.SeqRules.{seq_took, on_tick}
+use Rattle.lazy_rules.specs.SeqState.{SeqState, first_seq}
 use Rattle.lazy_rules.specs.WorldRules.{refusal}
 use Rattle.lazy_rules.specs.WorldState.{WorldState}
 use Rattle.rules_examples.proofs.Shows.{c#, shape_of, item, flow, ran, sends_of, told_of, after_all, seq_shown}
@@ -46,6 +48,10 @@ acknowledged_in_a_later_view = refl
 pub sent_on_a_tick : (on_node_tick (after_all client_took posted ((258, AppendAck 1 (c# 0 1)) ∷ []))).sends ≡ (264, Put (c# 0 1) (97 ∷ [])) ∷ (257, Append 1 (c# 0 1) None) ∷ (256, AskView) ∷ []
 sent_on_a_tick = refl
 
+-- where a batch begins
+abbrev pub batch_from : Batch → ℕ
+batch_from batch = batch.from
+
 -- reads force what the leader knows when they come: batches begin, pass in their order, and each read
 -- is answered once its target is bound; a later read of a client takes the place of its earlier one
 pub forced_by_reads : sends_of seq_took (first_seq (shape_of M 2 1 1 2) 0)
@@ -74,6 +80,23 @@ pub forced_by_reads : sends_of seq_took (first_seq (shape_of M 2 1 1 2) 0)
     ∷ []
 forced_by_reads = refl
 
+-- a read that waits for more than a batch holds forces several
+pub forced_twice : map batch_from (after_all seq_took (first_seq (shape_of M 1 1 1 1) 0)
+    (map (λ n. (0, Append 1 (c# 0 n) (Some []))) (range_with_len 1 65) ++ (0, Probe 1 1) ∷ [])).flight ≡ 0 ∷ 64 ∷ []
+forced_twice = refl
+
+-- each shard is given the data of its own places, and on a tick what it hasn't answered
+abbrev pub two_shards : SeqState
+two_shards = after_all seq_took (first_seq (shape_of M 1 2 1 1) 0) ((0, Append 1 (c# 0 1) (Some (97 ∷ []))) ∷ (0, Append 1 (c# 0 2) (Some (98 ∷ []))) ∷ [])
+
+pub placed_by_shard : (on_tick two_shards).sends ≡ (264, Place 1 0 (item 0 1 97 ∷ record { id = c# 0 2; bytes = None } ∷ []))
+    ∷ (268, Place 1 0 (record { id = c# 0 1; bytes = None } ∷ item 0 2 98 ∷ []))
+    ∷ []
+placed_by_shard = refl
+
+pub placed_again_by_shard : (on_tick (after_all seq_took (on_tick two_shards).next ((264, Placed 1 2) ∷ []))).sends ≡ (268, Place 1 0 (record { id = c# 0 1; bytes = None } ∷ item 0 2 98 ∷ [])) ∷ []
+placed_again_by_shard = refl
+
 -- a follower binds what is next alone, and answers again for what it has bound
 pub ordered_in_turn : sends_of seq_took (first_seq (shape_of M 2 1 1 1) 1)
     ((257, Order 1 1 (c# 0 2 ∷ []))
@@ -101,6 +124,14 @@ bound = ran (shape_of M 3 1 1 1) (Post 0 (97 ∷ []) ∷ flow 1 6 ++ Tick 257 �
 
 pub seen_at_a_claim : bound.history ≡ Invoke (c# 0 1) (97 ∷ []) ∷ Acked (c# 0 1) ∷ Seen 0 0 (c# 0 1 ∷ []) ∷ []
 seen_at_a_claim = refl
+
+pub seen_behind_another : (ran (shape_of M 2 1 1 2) (Post 0 (97 ∷ []) ∷ Post 1 (98 ∷ []) ∷ Deliver 3 ∷ Deliver 1 ∷ Deliver 2 ∷ Deliver 4 ∷ Tick 257 ∷ flow 9 6 ++ Peek 0 14 0 1 ∷ Peek 1 14 1 2 ∷ Peek 1 14 2 2 ∷ [])).history ≡ Invoke (c# 0 1) (97 ∷ [])
+    ∷ Invoke (c# 1 1) (98 ∷ [])
+    ∷ Seen 0 0 (c# 1 1 ∷ [])
+    ∷ Seen 1 1 (c# 0 1 ∷ [])
+    ∷ Seen 1 2 []
+    ∷ []
+seen_behind_another = refl
 
 pub refused : map (refusal bound)
     (Peek 0 14 0 1
