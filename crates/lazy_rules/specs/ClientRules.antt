@@ -1,18 +1,21 @@
-use Rattle.std.specs.Prelude.{ℕ, ◌+◌, ◌-◌, ◌^◌, List, [], ◌∷◌, ◌++◌, length, map, filter, position, remove, Bool, not, ◌&&◌, ◌==◌, nat_le, nat_lt, if◌then◌else◌, Option, Some, None, slice_get, slice_set, unwrap_or}
+use Rattle.std.specs.Prelude.{ℕ, ◌+◌, ◌-◌, ◌^◌, List, [], ◌∷◌, ◌++◌, length, map, filter, take, flat_map, position, remove, Bool, not, ◌&&◌, ◌==◌, nat_le, nat_lt, if◌then◌else◌, Option, Some, None, slice_get, slice_set, unwrap_or}
 use Rattle.std.specs.List.{list_all}
 use Rattle.rec_id.specs.Identity.{Identity, shard_of}
-use Rattle.rec_id.specs.declared.event.Event.TheVariants.{Invoke, Acked}
+use Rattle.rec_id.specs.declared.event.Event.TheVariants.{Invoke, Acked, Rejected as RejectedEvent}
 use Rattle.view_config.specs.declared.edition.Mode.{Mode}
 use Rattle.view_config.specs.declared.edition.Mode.TheVariants.{M, St}
 use Rattle.view_config.specs.Limits.{window_of, record_limit}
+use Rattle.view_config.specs.declared.config.Config.{Config}
+use Rattle.lazy_msgs.specs.declared.input.Input.{Input}
+use Rattle.lazy_msgs.specs.declared.input.Input.TheVariants.{Take, Tick, Post}
 use Rattle.lazy_msgs.specs.declared.msg.Msg.{Msg}
-use Rattle.lazy_msgs.specs.declared.msg.Msg.TheVariants.{Append, AppendAck, Put}
+use Rattle.lazy_msgs.specs.declared.msg.Msg.TheVariants.{Append, AppendAck, Put, DataAck, Rejected, ViewIs}
 use Rattle.lazy_msgs.specs.declared.refused.PostRefused.{PostRefused}
 use Rattle.lazy_msgs.specs.declared.refused.PostRefused.TheVariants.{TooLong, NumbersSpent, WindowFull}
 use Rattle.lazy_msgs.specs.Step.{Row}
 use Rattle.lazy_rules.specs.ClientState.{ClientState, OpenAppend, id_of, lowest}
 use Rattle.lazy_rules.specs.Door.{is_turned_away}
-use Rattle.lazy_rules.specs.Rows.{stays, has_node}
+use Rattle.lazy_rules.specs.Rows.{stays, sends_all, has_node}
 
 -- why an append of so many bytes is refused, if it is
 abbrev pub post_refusal : ClientState → ℕ → Option PostRefused
@@ -114,11 +117,73 @@ on_append_ack c from view id =
     else (if not (has_node c.config.seq from) then stays c
     else acknowledged c from (place_of c id.number)))
 
+-- DataAck: the same, where it is of the client's view and of a replica of the record's shard in it
+abbrev pub on_data_ack : ClientState → ℕ → ℕ → Identity → Row ClientState
+on_data_ack c from view id =
+    if not (view == c.config.view) then stays c
+    else (if not (id.client == c.client) then stays c
+    else (if not (has_node (homes_of c id) from) then stays c
+    else acknowledged c from (place_of c id.number)))
+
+-- Rejected: the append is finished, and the client is told the place of the no-op
+abbrev pub rejects : ClientState → Identity → ℕ → Option ℕ → Row ClientState
+rejects c id place None = stays c
+rejects c id place (Some i) = record {
+  next = record c { unfinished = remove c.unfinished i };
+  sends = [];
+  events = RejectedEvent id place ∷ [];
+}
+
+abbrev pub on_rejected : ClientState → Identity → ℕ → Row ClientState
+on_rejected c id place = if not (id.client == c.client) then stays c else rejects c id place (place_of c id.number)
+
+-- SENDING each of these appends
+abbrev pub sending_each : ClientState → List OpenAppend → Row ClientState
+sending_each c appends = sends_all c (flat_map (sending c) appends)
+
+-- ViewIs: the client goes on in a later view, in which nobody has acknowledged anything
+abbrev pub unacknowledged : OpenAppend → OpenAppend
+unacknowledged append = record append { acked = [] }
+
+abbrev pub in_config : ClientState → Config → ClientState
+in_config c config = record c { config = config; unfinished = map unacknowledged c.unfinished }
+
+abbrev pub on_view_is : ClientState → Config → Row ClientState
+on_view_is c config =
+    if nat_lt c.config.view config.view
+    then sending_each (in_config c config) (in_config c config).unfinished
+    else stays c
+
+-- Tick: the lowest unfinished appends, so many, are sent again
+abbrev pub resent_limit : ℕ
+resent_limit = 8
+
+abbrev pub on_client_tick : ClientState → Row ClientState
+on_client_tick c = sending_each c (take resent_limit c.unfinished)
+
+-- Post, where it isn't refused
+abbrev pub posts : ClientState → List ℕ → Option PostRefused → Row ClientState
+posts c bytes None = invokes c bytes
+posts c bytes (Some refused) = stays c
+
+abbrev pub on_post : ClientState → List ℕ → Row ClientState
+on_post c bytes = posts c bytes (post_refusal c (length bytes))
+
 -- what a message does, at a client that it isn't turned away from
 abbrev pub client_row : ClientState → ℕ → Msg → Row ClientState
 client_row c from (AppendAck view id) = on_append_ack c from view id
+client_row c from (DataAck view id) = on_data_ack c from view id
+client_row c from (Rejected id place) = on_rejected c id place
+client_row c from (ViewIs config) = on_view_is c config
 client_row c from _ = stays c
 
 -- what a message from this node does
 abbrev pub client_took : ClientState → ℕ → Msg → Row ClientState
 client_took c from msg = if is_turned_away c.shape from msg then stays c else client_row c from msg
+
+-- what an input does
+abbrev pub client_step : ClientState → Input → Row ClientState
+client_step c (Take envelope) = client_took c envelope.from envelope.msg
+client_step c Tick = on_client_tick c
+client_step c (Post bytes) = on_post c bytes
+client_step c _ = stays c

@@ -1,20 +1,18 @@
-use Rattle.std.specs.Prelude.{ℕ, zero, suc, ◌+◌, ◌-◌, ◌^◌, ◌/◌, List, [], ◌∷◌, length, Bool, true, false, not, ◌&&◌, ◌||◌, ◌==◌, nat_le, nat_lt, if◌then◌else◌, Option, Some, None, slice_index}
-use Rattle.std.specs.List.{list_all, list_any}
+use Rattle.std.specs.Prelude.{ℕ, zero, suc, ◌+◌, ◌^◌, ◌/◌, List, length, Bool, true, false, not, ◌&&◌, ◌||◌, ◌==◌, nat_lt, Option, Some}
+use Rattle.std.specs.List.{list_all}
 use Rattle.std.specs.Option.{is_none}
 use Rattle.rec_id.specs.Identity.{Identity}
 use Rattle.rec_id.specs.Marks.{bit_of}
 use Rattle.rec_id.specs.declared.entry.Entry.{Entry}
 use Rattle.rec_id.specs.declared.entry.Entry.TheVariants.{Kept, Noop, Gone}
-use Rattle.rec_id.specs.declared.item.Item.{Item}
-use Rattle.rec_id.specs.declared.item.Cell.{Cell}
 use Rattle.rec_id.specs.declared.marks.Marks.{Marks}
 use Rattle.view_config.specs.declared.config.Config.{Config}
 use Rattle.view_config.specs.declared.nodes.Node.{Node}
-use Rattle.view_config.specs.declared.nodes.Node.TheVariants.{Client, Controller, Seq, Shard}
+use Rattle.view_config.specs.declared.nodes.Node.TheVariants.{Client, Shard}
 use Rattle.view_config.specs.Limits.{window_of}
 use Rattle.view_config.specs.Shape.{Dimensions, node_of}
 use Rattle.lazy_msgs.specs.declared.msg.Msg.{Msg}
-use Rattle.lazy_msgs.specs.declared.msg.Msg.TheVariants.{Append, AppendAck, Put, DataAck, Rejected, Place, Placed, Copy, Copied, Order, Ordered, Stable, Probe, ProbeAck, TailReady, Fetch, Part, Flush, FlushCopy, Flushed, Seal, Sealed, SealedEmpty, NewView, Started, AskView, ViewIs, Claim, Trim, TrimAck, TrimmedAt}
+use Rattle.lazy_msgs.specs.declared.msg.Msg.TheVariants.{Append, AppendAck, Put, DataAck, Rejected, Place, Copy, Order, Probe, Part, Flush, FlushCopy, Sealed, NewView, ViewIs}
 
 -- The door of every node. What stands here meets no rule at all, whatever the node's state. No run of
 -- fewer than 2^32 events brings such a message.

@@ -1,4 +1,4 @@
-use Rattle.std.specs.Prelude.{ℕ, ◌+◌, ◌/◌, List, [], Bool, false, nat_lt, if◌then◌else◌, replicate}
+use Rattle.std.specs.Prelude.{ℕ, ◌/◌, List, [], Bool, false, nat_lt, if◌then◌else◌, replicate}
 use Rattle.rec_id.specs.declared.item.Item.{Item}
 use Rattle.rec_id.specs.declared.marks.Marks.{Marks}
 use Rattle.rec_id.specs.Marks.{no_marks}

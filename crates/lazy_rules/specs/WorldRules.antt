@@ -1,24 +1,36 @@
-use Rattle.std.specs.Prelude.{ℕ, ◌+◌, ◌-◌, ◌≤◌, List, [], ◌∷◌, ◌++◌, length, map, max, sum_by, Bool, ◌||◌, ◌==◌, nat_lt, if◌then◌else◌, Option, Some, None, slice_get, slice_set, slice_index}
+use Rattle.std.specs.Prelude.{ℕ, ◌+◌, ◌-◌, ◌≤◌, List, [], ◌∷◌, ◌++◌, length, map, max, sum_by, ◌==◌, nat_lt, if◌then◌else◌, Option, Some, None, slice_get, slice_set, slice_index, slice_range}
+use Rattle.rec_id.specs.Identity.{Identity}
 use Rattle.rec_id.specs.declared.event.Event.{Event}
+use Rattle.rec_id.specs.declared.item.Cell.{Cell}
 use Rattle.view_config.specs.declared.nodes.Node.{Node}
 use Rattle.view_config.specs.declared.nodes.Node.TheVariants.{Client, Controller, Seq, Shard}
+use Rattle.view_config.specs.declared.edition.Edition.{Edition}
+use Rattle.view_config.specs.declared.edition.Edition.TheVariants.{One, Two}
 use Rattle.view_config.specs.Shape.{node_of}
+use Rattle.lazy_msgs.specs.declared.input.Input.{Input}
+use Rattle.lazy_msgs.specs.declared.input.Input.TheVariants.{Tick as TickInput, Grace as GraceInput, Peek as PeekInput}
 use Rattle.lazy_msgs.specs.declared.input.WorldEvent.{WorldEvent}
-use Rattle.lazy_msgs.specs.declared.input.WorldEvent.TheVariants.{Post, Deliver}
+use Rattle.lazy_msgs.specs.declared.input.WorldEvent.TheVariants.{Post, Ask, Trim, Peek, Deliver, Tick, Grace, Crash, Suspect}
 use Rattle.lazy_msgs.specs.declared.msg.Envelope.{Envelope}
 use Rattle.lazy_msgs.specs.declared.msg.Msg.{Msg}
 use Rattle.lazy_msgs.specs.declared.msg.Msg.TheVariants.{Claim}
 use Rattle.lazy_msgs.specs.declared.refused.EventRefused.{EventRefused}
-use Rattle.lazy_msgs.specs.declared.refused.EventRefused.TheVariants.{NoNode, NoMessage, IsClaim, Crashed, Post as PostRefusedSo}
+use Rattle.lazy_msgs.specs.declared.refused.EventRefused.TheVariants.{NoNode, NoMessage, IsClaim, NotClaim, Crashed, NoTrim, Backward, Wide, NotYet, Post as PostRefusedSo}
 use Rattle.lazy_msgs.specs.declared.refused.PostRefused.{PostRefused}
 use Rattle.lazy_msgs.specs.Step.{Row}
 use Rattle.lazy_msgs.specs.Weight.{weight_of}
 use Rattle.lazy_rules.specs.ClientRules.{client_took, invokes, post_refusal}
+use Rattle.lazy_rules.specs.ClientNode.{client_node_step}
 use Rattle.lazy_rules.specs.ClientState.{ClientState}
 use Rattle.lazy_rules.specs.Rows.{has_node}
-use Rattle.lazy_rules.specs.SeqRules.{seq_took}
+use Rattle.lazy_rules.specs.SeqRules.{seq_took, seq_step}
 use Rattle.lazy_rules.specs.SeqState.{SeqState}
-use Rattle.lazy_rules.specs.WorldState.{WorldState}
+use Rattle.lazy_rules.specs.ShardRules.{shard_took, shard_step}
+use Rattle.lazy_rules.specs.ShardState.{ShardState}
+use Rattle.lazy_rules.specs.WorldState.{WorldState, shard_place}
+
+-- What events do to a world. Readers and the controller have no states here yet: a step of theirs
+-- leaves all as it was, and they refuse nothing.
 
 -- the time of a step of this node that receives a message of this time, 0 where it receives none
 abbrev pub step_time : WorldState → ℕ → ℕ → ℕ
@@ -45,6 +57,10 @@ client_did w c received row = stepped (record w { clients = slice_set w.clients 
 abbrev pub seq_did : WorldState → ℕ → ℕ → ℕ → Row SeqState → WorldState
 seq_did w node i received row = stepped (record w { seqs = slice_set w.seqs i row.next }) node received row.sends row.events
 
+-- the world after a step of the shard replica that stands at place k, whose number is `node`
+abbrev pub shard_did : WorldState → ℕ → ℕ → ℕ → Row ShardState → WorldState
+shard_did w node k received row = stepped (record w { shards = slice_set w.shards k row.next }) node received row.sends row.events
+
 -- Post
 abbrev pub posted : WorldState → ℕ → List ℕ → Option ClientState → WorldState
 posted w c bytes None = w
@@ -60,10 +76,18 @@ abbrev pub seq_received : WorldState → ℕ → Envelope → Option SeqState �
 seq_received w i envelope None = w
 seq_received w i envelope (Some seq) = seq_did w envelope.to i envelope.time (seq_took seq envelope.from envelope.msg)
 
+-- Deliver, to a shard replica
+abbrev pub shard_received : WorldState → ℕ → Envelope → Option ShardState → WorldState
+shard_received w k envelope None = w
+shard_received w k envelope (Some shard) =
+    shard_did w envelope.to k envelope.time (shard_took shard envelope.from envelope.msg)
+
 -- Deliver, to a node
 abbrev pub received : WorldState → Envelope → Option Node → WorldState
 received w envelope (Some (Client c)) = client_received w c envelope (slice_get w.clients c)
 received w envelope (Some (Seq i)) = seq_received w i envelope (slice_get w.seqs i)
+received w envelope (Some (Shard i j)) =
+    shard_received w (shard_place w.shape i j) envelope (slice_get w.shards (shard_place w.shape i j))
 received w envelope _ = w
 
 -- Deliver
@@ -79,11 +103,67 @@ envelope_at sent k = if k == 0 then None else slice_get sent (k - 1)
 abbrev pub message_at : WorldState → ℕ → Option Envelope
 message_at w k = envelope_at w.sent k
 
+-- an input that comes from outside, for a client's node, a sequencing replica and a shard replica
+abbrev pub client_given : WorldState → ℕ → Input → Option ClientState → WorldState
+client_given w c input None = w
+client_given w c input (Some client) = client_did w c 0 (client_node_step client input)
+
+abbrev pub seq_given : WorldState → ℕ → ℕ → Input → Option SeqState → WorldState
+seq_given w node i input None = w
+seq_given w node i input (Some seq) = seq_did w node i 0 (seq_step seq input)
+
+abbrev pub shard_given : WorldState → ℕ → ℕ → Input → Option ShardState → WorldState
+shard_given w node k input None = w
+shard_given w node k input (Some shard) = shard_did w node k 0 (shard_step shard input)
+
+-- an input that comes from outside, for a node
+abbrev pub given : WorldState → ℕ → Input → Option Node → WorldState
+given w node input (Some (Client c)) = client_given w c input (slice_get w.clients c)
+given w node input (Some (Seq i)) = seq_given w node i input (slice_get w.seqs i)
+given w node input (Some (Shard i j)) =
+    shard_given w node (shard_place w.shape i j) input (slice_get w.shards (shard_place w.shape i j))
+given w node input _ = w
+
+-- the identities that a shard replica has in its order in [from, to)
+abbrev pub ids_in : List Cell → List Identity
+ids_in cells = map (λ cell. cell.id) cells
+
+abbrev pub ids_of_shard : ℕ → ℕ → Option ShardState → List Identity
+ids_of_shard from to None = []
+ids_of_shard from to (Some shard) = ids_in (slice_range shard.store.order from to)
+
+abbrev pub ids_at : WorldState → ℕ → ℕ → Option Node → List Identity
+ids_at w from to (Some (Shard i j)) = ids_of_shard from to (slice_get w.shards (shard_place w.shape i j))
+ids_at w from to _ = []
+
+-- the stable number of a Claim
+abbrev pub claimed : Msg → ℕ
+claimed (Claim stable) = stable
+claimed _ = 0
+
+-- Peek: the client is told what the Claim's sender has
+abbrev pub peeked : WorldState → ℕ → ℕ → ℕ → Option Envelope → WorldState
+peeked w c from to None = w
+peeked w c from to (Some envelope) =
+    client_given w c
+    (PeekInput (claimed envelope.msg) from (ids_at w from to (node_of w.shape envelope.from)))
+    (slice_get w.clients c)
+
+-- Crash
+abbrev pub crashes : WorldState → ℕ → WorldState
+crashes w node = stepped (record w { crashed = w.crashed ++ node ∷ [] }) node 0 [] []
+
 -- the world after an event that isn't refused
 abbrev pub after : WorldState → WorldEvent → WorldState
 after w (Post c bytes) = posted w c bytes (slice_get w.clients c)
+after w (Peek c k from to) = peeked w c from to (message_at w k)
 after w (Deliver k) = delivered w (message_at w k)
-after w _ = w
+after w (Tick node) = given w node TickInput (node_of w.shape node)
+after w (Grace node) = given w node GraceInput (node_of w.shape node)
+after w (Crash node) = crashes w node
+after w (Ask c ask) = w
+after w (Trim c floor) = w
+after w (Suspect node) = w
 
 -- why a client's post is refused, if it is
 abbrev pub posting_refused : Option PostRefused → Option EventRefused
@@ -105,11 +185,73 @@ abbrev pub delivery_refused : WorldState → ℕ → Option Envelope → Option 
 delivery_refused w k None = Some (NoMessage k)
 delivery_refused w k (Some envelope) = delivery_to_refused w k envelope.to envelope.msg
 
+-- why a step of this node is refused, if it is
+abbrev pub step_refused_at : WorldState → ℕ → Option Node → Option EventRefused
+step_refused_at w node None = Some (NoNode node)
+step_refused_at w node (Some role) = if has_node w.crashed node then Some (Crashed node) else None
+
+-- why a crash is refused, if it is: the controller doesn't crash
+abbrev pub crash_refused_at : WorldState → ℕ → Option Node → Option EventRefused
+crash_refused_at w node (Some Controller) = Some (NoNode node)
+crash_refused_at w node role = step_refused_at w node role
+
+-- why the controller isn't told to replace this node, if it isn't
+abbrev pub suspect_refused_at : ℕ → Option Node → Option EventRefused
+suspect_refused_at node None = Some (NoNode node)
+suspect_refused_at node (Some role) = None
+
+-- why a client's read is refused, if it is
+abbrev pub ask_refused_at : WorldState → ℕ → Option ClientState → Option EventRefused
+ask_refused_at w c None = Some (NoNode c)
+ask_refused_at w c (Some client) = if has_node w.crashed c then Some (Crashed c) else None
+
+-- why a client's trim is refused, if it is: edition One has none
+abbrev pub trim_refused_in : Edition → Option EventRefused
+trim_refused_in One = Some NoTrim
+trim_refused_in Two = None
+
+abbrev pub trim_refused_at : WorldState → ℕ → Option ClientState → Option EventRefused
+trim_refused_at w c None = Some (NoNode c)
+trim_refused_at w c (Some client) =
+    if has_node w.crashed c then Some (Crashed c) else trim_refused_in w.shape.edition
+
+-- how many positions a peek, or a read, has at most
+abbrev pub width_limit : ℕ
+width_limit = 256
+
+-- why a peek at positions [from, to) of a claim is refused, if it is
+abbrev pub range_refused : ℕ → ℕ → ℕ → Option EventRefused
+range_refused from to stable =
+    if nat_lt to from then Some Backward
+    else (if nat_lt width_limit (to - from) then Some Wide
+    else (if nat_lt stable to then Some (NotYet stable)
+    else None))
+
+abbrev pub claim_refused : WorldState → ℕ → ℕ → ℕ → ℕ → Msg → Option EventRefused
+claim_refused w c k from to (Claim stable) =
+    if has_node w.crashed c then Some (Crashed c) else range_refused from to stable
+claim_refused w c k from to _ = Some (NotClaim k)
+
+-- why a peek is refused, if it is
+abbrev pub peek_refused : WorldState → ℕ → ℕ → ℕ → ℕ → Option Envelope → Option EventRefused
+peek_refused w c k from to None = Some (NoMessage k)
+peek_refused w c k from to (Some envelope) = claim_refused w c k from to envelope.msg
+
+abbrev pub peek_refused_at : WorldState → ℕ → ℕ → ℕ → ℕ → Option ClientState → Option EventRefused
+peek_refused_at w c k from to None = Some (NoNode c)
+peek_refused_at w c k from to (Some client) = peek_refused w c k from to (message_at w k)
+
 -- why an event is refused, if it is, the limits on messages and memory aside
 abbrev pub refusal : WorldState → WorldEvent → Option EventRefused
 refusal w (Post c bytes) = post_refused_at w c bytes (slice_get w.clients c)
+refusal w (Ask c ask) = ask_refused_at w c (slice_get w.clients c)
+refusal w (Trim c floor) = trim_refused_at w c (slice_get w.clients c)
+refusal w (Peek c k from to) = peek_refused_at w c k from to (slice_get w.clients c)
 refusal w (Deliver k) = delivery_refused w k (message_at w k)
-refusal w _ = None
+refusal w (Tick node) = step_refused_at w node (node_of w.shape node)
+refusal w (Grace node) = step_refused_at w node (node_of w.shape node)
+refusal w (Crash node) = crash_refused_at w node (node_of w.shape node)
+refusal w (Suspect node) = suspect_refused_at node (node_of w.shape node)
 
 -- how many messages a world has at most, and how much they weigh together
 abbrev pub messages_limit : ℕ

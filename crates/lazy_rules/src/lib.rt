@@ -1,4 +1,9 @@
 //! The rules of the protocol as definitions: the state of each role, what each input does to it, and
-//! what an event does to a whole world. There is no code here; `specs/` has one file for the state
-//! of a role and one for its rules, and the crates above are proved to follow them.
+//! what an event does to a whole world. `specs/` has one file for the state of a role, one for its
+//! rules and one for each part that several of them share; the crates above are proved to follow
+//! them. There is no code here but laws, which say of the definitions what they are meant to be.
 #![tactic(auto)]
+
+mod windows;
+
+pub use windows::seen_after_marks;
