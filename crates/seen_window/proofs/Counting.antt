@@ -18,7 +18,7 @@ use Rattle.seen_window.proofs.Formed.{IsFormed}
 abbrev pub count_in : (ℕ → Bool) → ℕ → ℕ → ℕ
 count_in p low count = count_by p (range_with_len low count)
 
-abbrev one_if : (ℕ → Bool) → ℕ → ℕ
+abbrev pub one_if : (ℕ → Bool) → ℕ → ℕ
 one_if p i = cond (p i) 1 0
 
 pub count_in-suc : (p : ℕ → Bool) (low count : ℕ) → count_in p low (suc count) ≡ one_if p low + count_in p (low + 1) count
