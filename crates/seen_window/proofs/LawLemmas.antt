@@ -1,15 +1,15 @@
 -- The laws of windows.
-use Rattle.std.proofs.Common.{◌≡◌, ℕ, zero, suc, ◌+◌, ◌-◌, ◌*◌, ◌<◌, ◌≤◌, List, [], ◌∷◌, All, Bool, true, false, cond, ◌&&◌, ◌||◌, eqb, ltb, leb, length, get_or, set, map, replicate, max, inl, inr, sym, ap, subst, ◌∙◌, refl, arith}
-use Rattle.std.proofs.lemmas.Bool.{cases_lt, cases_eq, cases_Bool, and_left, or_right, eq-eqb, ne_eqb, lt-ltb, le-ltb, le-leb, lt-leb, leb-true, leb-false, or_left, or_from, and_from, cond-true, cond-false}
+use Rattle.std.proofs.Common.{◌≡◌, ℕ, ◌+◌, ◌-◌, ◌*◌, ◌<◌, ◌≤◌, List, [], ◌∷◌, All, Bool, true, false, ◌&&◌, ◌||◌, eqb, ltb, leb, length, max, inl, inr, sym, ap, subst, ◌∙◌, refl, arith}
+use Rattle.std.proofs.lemmas.Bool.{cases_lt, cases_eq, and_left, or_right, eq-eqb, ne_eqb, lt-ltb, le-ltb, le-leb, lt-leb, leb-true, leb-false, or_left, or_from, and_from, cond-true, cond-false}
 use Rattle.std.proofs.lemmas.List.{get_or-replicate, length-replicate, length-set, length-map, get_or-map}
 use Rattle.rec_id.specs.Identity.{Identity}
 use Rattle.rec_id.specs.declared.marks.Marks.{Marks}
-use Rattle.rec_id.specs.Marks.{window_of, bit_of, is_marked, is_stale, is_seen, stands_marked, marks_where, mark, no_marks}
-use Rattle.seen_window.specs.Image.{marks_of, words_of, no_image, top_in, seen_in, mark_in, marked_in, marked_count, is_image, widened, widened_image}
+use Rattle.rec_id.specs.Marks.{window_of, bit_of, is_marked, is_stale, is_seen, stands_marked, mark, no_marks}
+use Rattle.seen_window.specs.Image.{marks_of, words_of, no_image, top_in, seen_in, mark_in, marked_count, is_image, widened, widened_image}
 use Rattle.seen_window.specs.Seen.{was_marked, top_after, seen_after, marked_after, width_of, StandsFor}
 use Rattle.seen_window.proofs.BitLemmas.{length-words_where}
 use Rattle.seen_window.proofs.Counting.{count_in, count_in-same}
-use Rattle.seen_window.proofs.Formed.{IsFormed, IsImage, image_facts, image_test}
+use Rattle.seen_window.proofs.Formed.{IsFormed, image_facts, image_test}
 use Rattle.seen_window.proofs.Images.{where_formed, client_formed, marked_same, marked_other, marked_words}
 use Rattle.seen_window.proofs.Standing.{absorbed, seen_where, seen_mark, count_window}
 

@@ -1,16 +1,10 @@
 -- A window tells of the marks that it stands for what their list tells.
-use Rattle.std.proofs.Common.{◌≡◌, ℕ, zero, suc, ◌+◌, ◌-◌, ◌*◌, ◌<◌, ◌≤◌, List, [], ◌∷◌, Bool, true, false, cond, ◌&&◌, ◌||◌, eqb, ltb, leb, length, get_or, set, replicate, max, inl, inr, sym, ap, subst, ◌∙◌, refl, zero-add, add-zero, arith}
-use Rattle.std.proofs.lemmas.Bool.{cases_lt, cases_eq, cases_Bool, and_left, and_right, or_right, eq-eqb, ne_eqb, lt-ltb, le-ltb, le-leb, lt-leb, leb-true, cond-true, cond-false}
-use Rattle.std.proofs.lemmas.List.{get_or-replicate, length-replicate, length-set}
-use Rattle.rec_id.specs.Identity.{Identity}
+use Rattle.std.proofs.Common.{◌≡◌, ℕ, zero, suc, ◌+◌, ◌-◌, ◌*◌, ◌<◌, ◌≤◌, Bool, true, false, cond, ◌&&◌, ◌||◌, eqb, ltb, leb, length, max, inl, inr, sym, ap, ◌∙◌, refl, zero-add, add-zero, arith}
+use Rattle.std.proofs.lemmas.Bool.{cases_lt, and_left, and_right, or_right, ne_eqb, lt-ltb, le-ltb, le-leb, lt-leb, leb-true}
 use Rattle.rec_id.specs.declared.marks.Marks.{Marks}
-use Rattle.rec_id.specs.Marks.{window_of, bit_of, is_marked, is_stale, is_seen, stands_marked, marks_where, mark, no_marks}
-use Rattle.seen_window.specs.Image.{marks_of, words_of, no_image, top_in, seen_in, mark_in, marked_in, marked_count, is_image}
-use Rattle.seen_window.specs.Seen.{was_marked, top_after, seen_after, marked_after, width_of, StandsFor}
-use Rattle.seen_window.proofs.BitLemmas.{bit_of-words_where, bit_of-past, length-words_where}
+use Rattle.rec_id.specs.Marks.{window_of, bit_of, is_marked, is_stale, is_seen, stands_marked, marks_where, mark}
+use Rattle.seen_window.proofs.BitLemmas.{bit_of-words_where, length-words_where}
 use Rattle.seen_window.proofs.Counting.{count_in, one_if, count_in-suc, count_in-same, count_in-split}
-use Rattle.seen_window.proofs.Formed.{IsFormed}
-use Rattle.seen_window.proofs.Images.{client_formed, marked_same, marked_other, marked_words}
 
 -- ---- seen by marks that are as told
 module _ (words top : ℕ) (told : ℕ → Bool) (number : ℕ) (some : 1 ≤ number) where
