@@ -5,9 +5,9 @@ use Rattle.std.specs.List.{range_with_len}
 use Rattle.std.proofs.lemmas.Bool.{cond-true, cond-false, lt-ltb, le-ltb, cases_lt, cases_eq, cases_Bool, eqb-true, eqb-false, eq-eqb, ne_eqb, le-leb, lt-leb}
 use Rattle.std.proofs.lemmas.List.{get_or_past, get_or-set_same, get_or-set_other, get_or_append_left, get_or-append_right, get_or-replicate, get_or-take, length-replicate}
 use Rattle.std.proofs.lemmas.List.FromFn.{get_or-map-range_with_len, length-map-range_with_len}
-use Rattle.std.proofs.lemmas.Nat.Bits.{bit_at-zero, bit_at-lt, same_from_bits_below, bit_at_set_same, bit_at_set_other, bit_at_cat_low, bit_at_cat_high, bit_at_or}
+use Rattle.std.proofs.lemmas.Nat.Bits.{bit_at-zero, bit_at-lt, same_from_bits_below, bit_at_set_same, bit_at_set_other, bit_at_cat_low, bit_at_cat_high}
 use Rattle.std.proofs.Math.Nat.{mul-mod_left}
-use Rattle.std.proofs.lemmas.Nat.{shr_below, shl-shr, shr-shr, shr_split, pow_pos, or_shifted, mod_low, mod-pow-add, pow-add}
+use Rattle.std.proofs.lemmas.Nat.{shr_below, shl-shr, shr-shr, shr_split, pow_pos, or_shifted, mod-pow-add}
 use Rattle.std.proofs.lemmas.Simd.{bit_mask_l, mask_l-lt}
 use lib.Lanes.{mask_l}
 use Rattle.rec_id.specs.Marks.{bit_of, bits_where, words_where}

@@ -1,9 +1,9 @@
 -- The digits of the words count the marked numbers.
-use Rattle.std.proofs.Common.{◌≡◌, ℕ, zero, suc, ◌+◌, ◌-◌, ◌*◌, ◌<◌, ◌≤◌, ◌^◌, List, [], ◌∷◌, Bool, false, cond, ◌&&◌, leb, ltb, length, get_or, w64, Fits, inl, inr, sym, ap, ◌∙◌, refl, zero-add, arith}
+use Rattle.std.proofs.Common.{◌≡◌, ℕ, zero, suc, ◌+◌, ◌-◌, ◌*◌, ◌<◌, ◌≤◌, ◌^◌, List, [], ◌∷◌, Bool, cond, ◌&&◌, length, get_or, w64, Fits, inl, inr, sym, ap, ◌∙◌, refl, zero-add, arith}
 use Rattle.std.specs.Prelude.{sum_by, count_by, count_ones}
 use Rattle.std.specs.List.{range_with_len}
 use Rattle.std.specs.Int.{bit_at}
-use Rattle.std.proofs.lemmas.Bool.{cases_lt, and_right, lt-ltb, le-ltb, le-leb}
+use Rattle.std.proofs.lemmas.Bool.{cases_lt, lt-ltb, le-ltb, le-leb}
 use Rattle.std.proofs.lemmas.List.FromFn.{length-range_with_len}
 use Rattle.std.proofs.lemmas.List.Sums.{sum_by-cons, count_by-le-length}
 use Rattle.std.proofs.lemmas.Nat.Bits.{bit_at-lt, same_from_bits_below}
@@ -18,7 +18,7 @@ use Rattle.seen_window.proofs.Formed.{IsFormed}
 abbrev pub count_in : (ℕ → Bool) → ℕ → ℕ → ℕ
 count_in p low count = count_by p (range_with_len low count)
 
-abbrev one_if : (ℕ → Bool) → ℕ → ℕ
+abbrev pub one_if : (ℕ → Bool) → ℕ → ℕ
 one_if p i = cond (p i) 1 0
 
 pub count_in-suc : (p : ℕ → Bool) (low count : ℕ) → count_in p low (suc count) ≡ one_if p low + count_in p (low + 1) count

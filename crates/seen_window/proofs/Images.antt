@@ -1,5 +1,5 @@
 -- The form of a window is kept.
-use Rattle.std.proofs.Common.{◌≡◌, ℕ, zero, suc, ◌+◌, ◌-◌, ◌*◌, ◌<◌, ◌≤◌, ◌⊎◌, List, Bool, true, false, ◌&&◌, ◌||◌, eqb, ltb, leb, length, get_or, set, replicate, max, inl, inr, sym, ap, subst, ◌∙◌, refl, arith}
+use Rattle.std.proofs.Common.{◌≡◌, ℕ, ◌+◌, ◌-◌, ◌*◌, ◌<◌, ◌≤◌, ◌⊎◌, List, Bool, true, false, ◌&&◌, ◌||◌, eqb, leb, length, get_or, set, max, inl, inr, sym, ap, subst, ◌∙◌, arith}
 use Rattle.std.proofs.lemmas.Bool.{cases_lt, cases_eq, and_from, or_left, or_right, eq-eqb, lt-ltb, le-ltb, le-leb}
 use Rattle.std.proofs.lemmas.List.{get_or_read, get_or-set_same, get_or-set_other, get_or-replicate, length-set, length-replicate}
 use Rattle.rec_id.specs.declared.marks.Marks.{Marks}
@@ -59,26 +59,39 @@ module _ (image : List Marks) (is : is_image image ≡ true) where
           formed_test (length marks.bits) marks (subst (λ (n : ℕ). IsFormed n marks) (sym formed.long) formed),
         )
 
-    pub mark_image : (number : ℕ) → is_image (set image client (mark (marks_of image client) number)) ≡ true
-    mark_image number =
-        let made = mark (marks_of image client) number in
-        let marked = set image client made in
-        let formed : IsFormed (words_of image) made = mark_formed (words_of image) (marks_of image client) number some_words.0 client_formed in
-        let same : get_or marked client (no_marks 0) ≡ made = get_or-set_same image client made (no_marks 0) inside in
-        let each : (other : ℕ) → other < length image → IsFormed (words_of image) (marks_of marked other) =
-        λ other within. elim (cases_eq other client) [
-          | inl here ↦ subst (λ (k : ℕ). IsFormed (words_of image) (marks_of marked k)) (sym here) (subst (IsFormed (words_of image)) (sym same) formed)
-          | inr elsewhere ↦
-              subst (IsFormed (words_of image)) (sym (get_or-set_other image client other made (no_marks 0) elsewhere)) (facts.each other within)
-        ] in
-        let words : words_of marked ≡ words_of image = (each 0 (omega (arith, facts.some))).long in
-        image_test marked (record {
-          known = subst (λ (n : ℕ). (n ≡ 4) ⊎ (n ≡ 64)) (sym words) facts.known;
-          some = omega (arith, length-set image client made, facts.some);
-          few = omega (arith, length-set image client made, facts.few);
-          each = λ other within.
-              subst (λ (n : ℕ). IsFormed n (marks_of marked other)) (sym words) (each other (omega (arith, length-set image client made)));
-        })
+    module _ (number : ℕ) where
+      abbrev made : Marks
+      made = mark (marks_of image client) number
+
+      abbrev marked : List Marks
+      marked = set image client made
+
+      pub marked_same : marks_of marked client ≡ made
+      marked_same = get_or-set_same image client made (no_marks 0) inside
+
+      pub marked_other : (other : ℕ) → (other ≡ client → ⊥) → marks_of marked other ≡ marks_of image other
+      marked_other other elsewhere = get_or-set_other image client other made (no_marks 0) elsewhere
+
+      each : (other : ℕ) → other < length image → IsFormed (words_of image) (marks_of marked other)
+      each other within = elim (cases_eq other client) [
+        | inl here ↦
+            subst (λ (k : ℕ). IsFormed (words_of image) (marks_of marked k)) (sym here)
+            (subst (IsFormed (words_of image)) (sym marked_same) (mark_formed (words_of image) (marks_of image client) number some_words.0 client_formed))
+        | inr elsewhere ↦ subst (IsFormed (words_of image)) (sym (marked_other other elsewhere)) (facts.each other within)
+      ]
+
+      pub marked_words : words_of marked ≡ words_of image
+      marked_words = (each 0 (omega (arith, facts.some))).long
+
+      pub mark_image : is_image marked ≡ true
+      mark_image =
+          image_test marked (record {
+            known = subst (λ (n : ℕ). (n ≡ 4) ⊎ (n ≡ 64)) (sym marked_words) facts.known;
+            some = omega (arith, length-set image client made, facts.some);
+            few = omega (arith, length-set image client made, facts.few);
+            each = λ other within.
+                subst (λ (n : ℕ). IsFormed n (marks_of marked other)) (sym marked_words) (each other (omega (arith, length-set image client made)));
+          })
 
 pub no_image_is : (clients words : ℕ) → 1 ≤ clients → clients ≤ 256 → (words ≡ 4) ⊎ (words ≡ 64) → is_image (no_image clients words) ≡ true
 no_image_is clients words some few known =

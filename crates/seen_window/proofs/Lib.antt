@@ -5,3 +5,5 @@ pub mod Marking
 pub mod Counting
 pub mod Images
 pub mod Widening
+pub mod Standing
+pub mod LawLemmas

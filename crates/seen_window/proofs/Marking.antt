@@ -1,11 +1,11 @@
 -- What marking one number does to a client's marks.
-use Rattle.std.proofs.Common.{◌≡◌, ◌≢◌, ℕ, zero, suc, ◌+◌, ◌-◌, ◌*◌, ◌/◌, ◌%◌, ◌^◌, ◌<◌, ◌≤◌, List, Bool, true, false, ◌&&◌, ◌||◌, eqb, ltb, leb, length, get_or, replicate, max, w64, Fits, inl, inr, sym, ap, ◌∙◌, refl, arith}
+use Rattle.std.proofs.Common.{◌≡◌, ℕ, zero, suc, ◌-◌, ◌*◌, ◌/◌, ◌%◌, ◌^◌, ◌<◌, ◌≤◌, List, Bool, false, ◌&&◌, ◌||◌, eqb, ltb, leb, length, get_or, replicate, max, w64, Fits, inl, inr, sym, ap, ◌∙◌, refl, arith}
 use Rattle.std.proofs.lemmas.Bool.{cases_lt, cases_eq, and_right, or_from, eq-eqb, ne_eqb, lt-ltb, le-ltb, le-leb, lt-leb}
 use Rattle.std.proofs.lemmas.List.{length-replicate}
 use Rattle.std.proofs.lemmas.Nat.Bits.{bit_at-zero}
 use Rattle.rec_id.specs.declared.marks.Marks.{Marks}
-use Rattle.rec_id.specs.Marks.{bit_of, is_marked, is_stale, is_seen, words_where, stands_marked, marks_where, mark, no_marks}
-use Rattle.seen_window.proofs.BitLemmas.{bit_of-words_where, bit_of-past, length-words_where, words_are}
+use Rattle.rec_id.specs.Marks.{bit_of, is_marked, words_where, stands_marked, marks_where, mark, no_marks}
+use Rattle.seen_window.proofs.BitLemmas.{words_are}
 use Rattle.seen_window.proofs.Formed.{IsFormed}
 
 eqb_same : (a b c d : ℕ) → (a ≡ b → c ≡ d) → (c ≡ d → a ≡ b) → eqb a b ≡ eqb c d

@@ -1,9 +1,8 @@
 -- A move by whole words and then within words is a move by both together.
-use Rattle.std.proofs.Common.{◌≡◌, ℕ, ◌+◌, ◌-◌, ◌*◌, ◌/◌, ◌%◌, ◌<◌, ◌≤◌, List, ◌++◌, Bool, true, false, ◌&&◌, leb, length, take, replicate, min, w64, Fits, get_or, inl, inr, sym, ap, ◌∙◌, refl, arith}
+use Rattle.std.proofs.Common.{◌≡◌, ℕ, ◌+◌, ◌-◌, ◌*◌, ◌/◌, ◌%◌, ◌<◌, List, ◌++◌, Bool, false, ◌&&◌, leb, length, take, replicate, min, inl, inr, sym, ap, ◌∙◌, arith}
 use Rattle.std.proofs.lemmas.Bool.{cases_lt, le-leb, lt-leb}
 use Rattle.rec_id.specs.Marks.{bit_of}
-use Rattle.seen_window.specs.Shifted.{shifted}
-use Rattle.seen_window.proofs.BitLemmas.{bit_of-moved, bit_of-shifted_up}
+use Rattle.seen_window.proofs.BitLemmas.{bit_of-moved}
 
 -- the test of a bit that was moved up
 abbrev came : ℕ → List ℕ → ℕ → Bool

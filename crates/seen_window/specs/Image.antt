@@ -1,4 +1,4 @@
-use Rattle.std.specs.Prelude.{ℕ, ◌*◌, ◌/◌, Bool, not, ◌&&◌, ◌||◌, ◌==◌, nat_lt, nat_le, List, length, map, replicate, slice_index_or, slice_set, count_by}
+use Rattle.std.specs.Prelude.{ℕ, Bool, not, ◌&&◌, ◌||◌, ◌==◌, nat_lt, nat_le, List, length, map, replicate, slice_index_or, slice_set, count_by}
 use Rattle.std.specs.List.{range_with_len, list_all}
 use Rattle.rec_id.specs.Identity.{Identity}
 use Rattle.rec_id.specs.Marks.{window_of, bit_of, is_marked, is_seen, stands_marked, marks_where, mark, no_marks}

@@ -8,8 +8,10 @@
 
 mod bits;
 mod client;
+mod laws;
 mod wider;
 mod window;
 
+pub use laws::{marks_add_up, read_back, widening_keeps_seen};
 pub use wider::widen;
 pub use window::SeenWindow;

@@ -1,8 +1,8 @@
 //! The image of a wider window.
 
-ghost use Rattle.std.specs.Prelude.{◌≡◌, ℕ, ◌+◌, ◌*◌, ◌<◌, [], ◌∷◌, nat_lt, All, length, IfOk};
+ghost use Rattle.std.specs.Prelude.{◌≡◌, ℕ, ◌+◌, ◌*◌, ◌<◌, [], ◌∷◌, nat_lt, All, length, IfOk, IsTrue};
 ghost use Rattle.rec_id.specs.Marks.{bit_of, is_seen, stands_marked};
-ghost use Rattle.seen_window.specs.Image.{widened, widened_image};
+ghost use Rattle.seen_window.specs.Image.{is_image, widened, widened_image};
 
 use plain_lists::Sequence;
 use rec_id::{Marks, WindowList};
@@ -59,11 +59,36 @@ fn widen_marks(alloc: Global, marks: &Marks) -> Result<Marks, AllocError>
 /// has 256 bits a client.
 pub fn widen(alloc: Global, list: &WindowList) -> Result<WindowList, AllocError>
     requires { All (λ marks. length marks.bits ≡ NARROW) list.now }
-    ensures { IfOk result (λ made. made ≡ widened_image list.now) }
+    ensures made { IfOk result (λ made. made ≡ widened_image list.now) }
+    ensures image { IsTrue (is_image list.now) → IfOk result (λ made. IsTrue (is_image made)) }
 {
     let mut made = Vec::with_capacity(alloc, list.len())?;
     for marks in list.as_slice() {
         made.push(widen_marks(alloc, marks)?)?;
     }
     Ok(Sequence::from_vec(made))
+}
+
+#[cfg(test)]
+mod tests {
+    use super::*;
+    use std::test::Fail;
+
+    #[test]
+    fn keeps_the_oldest(rt: HostRuntime) -> Result<(), Fail> {
+        let bits = Vec::from_slice(rt.alloc(), &[1, 0, 0, 0])?;
+        let mut list = WindowList::new(rt.alloc());
+        list.push(Marks {
+            top: 300,
+            bits: Sequence::from_vec(bits),
+        })?;
+        let wide = widen(rt.alloc(), &list)?;
+        assert_eq!(rt; wide.len(), 1);
+        let marks = wide.at(0);
+        assert_eq!(rt; marks.top, 300);
+        assert_eq!(rt; marks.bits.len(), 64);
+        assert_eq!(rt; *marks.bits.at(0), 1);
+        assert_eq!(rt; *marks.bits.at(4), (1 << 44) - 1);
+        Ok(())
+    }
 }

@@ -104,3 +104,30 @@ impl SeenWindow {
         self.clients[client as usize].marked()
     }
 }
+
+#[cfg(test)]
+mod tests {
+    use super::*;
+    use std::test::Fail;
+
+    fn id(number: u32) -> Result<RecordId, Fail>
+        ensures { IfOk result (λ id. id.client ≡ 0) }
+    {
+        match RecordId::new(0, number) {
+            Ok(id) => Ok(id),
+            Err(_) => Err("no identity")?,
+        }
+    }
+
+    #[test]
+    fn one_client(rt: HostRuntime) -> Result<(), Fail> {
+        let mut window = SeenWindow::new(rt.alloc(), 1, 256)?;
+        window.mark(id(300)?);
+        let window = SeenWindow::from_image(rt.alloc(), &window.image()?)?;
+        assert_eq!(rt; window.seen(id(44)?), true);
+        assert_eq!(rt; window.seen(id(45)?), false);
+        assert_eq!(rt; window.top(0), 300);
+        assert_eq!(rt; window.marked(0), 1);
+        Ok(())
+    }
+}

@@ -1,4 +1,4 @@
-use Rattle.std.proofs.Common.{◌≡◌, ℕ, ◌%◌, Fits, w64, get_or, length, arith, rules, ap, sym, ◌∙◌}
+use Rattle.std.proofs.Common.{◌≡◌, ℕ, ◌%◌, Fits, w64, get_or, length, arith, rules, ap, ◌∙◌}
 use Rattle.rec_id.specs.Marks.{bit_of}
 use Rattle.seen_window.proofs.BitLemmas.{bit_of-shifted_up}
 use Rattle.seen_window.proofs.Moves.{came_both}

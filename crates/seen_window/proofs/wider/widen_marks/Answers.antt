@@ -1,4 +1,4 @@
-use Rattle.std.proofs.Common.{◌≡◌, List, ℕ, sym, ap, subst, ◌∙◌, arith}
+use Rattle.std.proofs.Common.{List, ℕ, ap, subst, ◌∙◌, arith}
 use Rattle.rec_id.specs.declared.marks.Marks.{Marks}
 use Rattle.rec_id.specs.Marks.{is_seen, stands_marked}
 use Rattle.seen_window.proofs.Widening.{Made, made_none, made_more, widened_is}

@@ -1,4 +1,3 @@
-use Rattle.std.proofs.Common.{◌≡◌}
 use Rattle.rec_id.specs.Marks.{is_seen, stands_marked}
 use Rattle.seen_window.proofs.Widening.{Made}
 use Rattle.seen_window.proofs.wider.widen_marks.Given as goal

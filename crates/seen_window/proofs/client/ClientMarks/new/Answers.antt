@@ -1,4 +1,4 @@
-use Rattle.std.proofs.Common.{◌≡◌, ℕ, List, replicate, sym, ap, ◌∙◌, rules}
+use Rattle.std.proofs.Common.{◌≡◌, ℕ, List, replicate, ap, ◌∙◌, rules}
 use Rattle.rec_id.specs.declared.marks.Marks.{Marks}
 use Rattle.seen_window.proofs.Marking.{no_marks_are}
 use Rattle.seen_window.proofs.client.ClientMarks.new.Goals as goal

@@ -1,8 +1,7 @@
-use Rattle.std.proofs.Common.{◌≡◌, ℕ, List, length, set, sym, ap, subst, ◌∙◌, arith, rules}
+use Rattle.std.proofs.Common.{◌≡◌, rules}
 use Rattle.std.proofs.lemmas.List.{get_or_read}
-use Rattle.rec_id.specs.declared.marks.Marks.{Marks}
-use Rattle.rec_id.specs.Marks.{mark, no_marks}
-use Rattle.seen_window.specs.Image.{marks_of, is_image}
+use Rattle.rec_id.specs.Marks.{no_marks}
+use Rattle.seen_window.specs.Image.{marks_of}
 use Rattle.seen_window.proofs.Images.{read_formed, mark_image}
 use Rattle.seen_window.proofs.window.SeenWindow.mark.Goals as goal
 

@@ -1,4 +1,4 @@
-use Rattle.std.proofs.Common.{arith, rules}
+use Rattle.std.proofs.Common.{rules}
 use Rattle.seen_window.proofs.Images.{read_formed}
 use Rattle.seen_window.proofs.window.SeenWindow.marked.Goals as goal
 

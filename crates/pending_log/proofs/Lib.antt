@@ -1,0 +1,4 @@
+pub mod Places
+pub mod Identities
+pub mod Removal
+pub mod Rings
