@@ -1,16 +1,13 @@
 -- What was written is read again, whatever follows it.
-use Rattle.std.proofs.Common.{◌≡◌, ℕ, zero, suc, ◌+◌, ◌-◌, ◌*◌, ◌%◌, ◌^◌, ◌<◌, ◌≤◌, Bool, true, false, ltb, List, [], ◌∷◌, ◌++◌, length, take, drop, slice_index, min, Option, Some, None, Result, Ok, Err, refl, sym, ap, subst, ◌∙◌, append_assoc, arith, inl, inr, length-append}
-use Rattle.std.specs.Prelude.{nat_lt, nat_le, ◌==◌, ◌||◌, ◌&&◌}
-use Rattle.std.specs.List.{AllByRecursion, flat_map}
-use Rattle.std.specs.Int.{Width, w16, w32, w64, byte_len, from_be_bytes, to_be_bytes, from_le_bytes, to_le_bytes}
+use Rattle.std.proofs.Common.{◌≡◌, ℕ, ◌^◌, ◌<◌, ◌≤◌, Bool, true, false, ltb, List, [], ◌∷◌, ◌++◌, length, Ok, refl, sym, subst, append_assoc, arith, length-append}
+use Rattle.std.specs.Prelude.{nat_lt, nat_le}
+use Rattle.std.specs.Int.{Width, w16, w32, w64, byte_len, from_be_bytes, to_be_bytes}
 use Rattle.std.proofs.lemmas.Bool.{le-leb, le-ltb, lt-ltb}
 use Rattle.std.proofs.lemmas.List.{take_at, drop_at}
-use Rattle.std.proofs.lemmas.Nat.{from_be_bytes-to_be_bytes_2, from_be_bytes-to_be_bytes_4, from_be_bytes-to_be_bytes_8, from_le_bytes-to_le_bytes_8}
-use Rattle.wire_frames.specs.declared.offence.FrameError.{FrameError}
-use Rattle.wire_frames.specs.declared.offence.FrameError.TheVariants.{Short, Field, Over}
-use Rattle.lazy_msgs.specs.Frame.{two, four, eight, word_form}
-use Rattle.lazy_msgs.specs.FrameLimits.{IsWord, IsCounted, IsNode}
-use Rattle.wire_frames.specs.Reading.{Taken, Reader, goes_on, ◌>>=◌, done, byte_at, part_at, number_at, judged, allowed, limited, counted_at, node_at, addressee_at, time_at, one_field, two_fields, three_fields, four_fields}
+use Rattle.std.proofs.lemmas.Nat.{from_be_bytes-to_be_bytes_2, from_be_bytes-to_be_bytes_4, from_be_bytes-to_be_bytes_8}
+use Rattle.lazy_msgs.specs.Frame.{two, four, eight}
+use Rattle.lazy_msgs.specs.FrameLimits.{IsCounted, IsNode}
+use Rattle.wire_frames.specs.Reading.{Reader, ◌>>=◌, done, byte_at, part_at, number_at, allowed, limited, counted_at, node_at, addressee_at, time_at, one_field, two_fields, three_fields, four_fields}
 
 -- the reader takes these bytes as this value, whatever follows
 pub record Reads {A : Type 0} (read : Reader A) (form : List ℕ) (value : A) : Type 0 where

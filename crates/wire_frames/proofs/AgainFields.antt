@@ -1,8 +1,8 @@
 -- The fields of several parts and the lists, written and read again.
-use Rattle.std.proofs.Common.{◌≡◌, ℕ, zero, suc, ◌+◌, ◌-◌, ◌*◌, ◌%◌, ◌^◌, ◌<◌, ◌≤◌, Bool, true, false, List, [], ◌∷◌, ◌++◌, length, take, drop, slice_index, min, Option, Some, None, Result, Ok, Err, refl, sym, ap, subst, ◌∙◌, append_assoc, arith, length-append}
-use Rattle.std.specs.Prelude.{nat_lt, nat_le, ◌==◌, ◌||◌, ◌&&◌, if◌then◌else◌}
+use Rattle.std.proofs.Common.{◌≡◌, ℕ, zero, suc, ◌-◌, ◌*◌, ◌%◌, ◌^◌, ◌<◌, ◌≤◌, Bool, true, false, List, [], ◌∷◌, ◌++◌, length, take, drop, slice_index, min, Option, Some, None, refl, subst, arith}
+use Rattle.std.specs.Prelude.{nat_le, ◌==◌, ◌||◌, if◌then◌else◌}
 use Rattle.std.specs.List.{AllByRecursion, flat_map}
-use Rattle.std.specs.Int.{w16, w32, w64, from_le_bytes, to_le_bytes}
+use Rattle.std.specs.Int.{w16, w32, w64, from_le_bytes}
 use Rattle.std.proofs.lemmas.Bool.{le-leb, lt-ltb}
 use Rattle.std.proofs.lemmas.List.{take_at, drop_at}
 use Rattle.std.proofs.lemmas.Nat.{from_le_bytes-to_le_bytes_8}
@@ -21,9 +21,9 @@ use Rattle.view_config.specs.declared.config.Config.{Config}
 use Rattle.view_config.specs.Limits.{record_limit}
 use Rattle.lazy_msgs.specs.Frame.{two, four, word_form, size_form, bytes_form, optional_form, list_form, id_form, item_form, body_form, cell_form, entry_form, placed_form, nodes_form, config_form, marks_form}
 use Rattle.lazy_msgs.specs.FrameLimits.{BytesFit, OptionalFits, ListFits, ItemFits, BodyFits, CellFits, EntryFits, PlacedFits, IsNode, NodesFit, ConfigFits, EndAt, MarksFit, WindowFits, words_of}
-use Rattle.wire_frames.specs.Reading.{Reader, ◌>>=◌, done, byte_at, part_at, number_at, allowed, limited, counted_at, node_at, id_at, size_at, bytes_at, optional_at, item_at, body_at, cell_at, entry_at, placed_at, members_at, list_at, nodes_at, shards_at, config_at, words_in, end_at, are_bits, words_at, marks_at, window_at}
+use Rattle.wire_frames.specs.Reading.{Reader, ◌>>=◌, done, byte_at, part_at, number_at, allowed, limited, node_at, id_at, size_at, bytes_at, optional_at, item_at, body_at, cell_at, entry_at, placed_at, members_at, list_at, nodes_at, shards_at, config_at, words_in, end_at, are_bits, words_at, marks_at, window_at}
 use Rattle.wire_frames.proofs.FieldLengths.{length-words, length-word_form}
-use Rattle.wire_frames.proofs.Again.{Reads, reads_then, reads_done, reads_allowed, reads_limited, reads_two, reads_four, reads_byte, reads_counted, reads_node, reads_part, reads_one, reads_two_fields, reads_three_fields}
+use Rattle.wire_frames.proofs.Again.{Reads, reads_then, reads_allowed, reads_limited, reads_two, reads_four, reads_byte, reads_counted, reads_node, reads_part, reads_one, reads_two_fields, reads_three_fields}
 
 pub reads_id : (size : ℕ) (id : Identity) → IsIdentity id → Reads (id_at size) (id_form id) id
 unfolding id_at

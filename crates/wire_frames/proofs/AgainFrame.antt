@@ -1,7 +1,6 @@
 -- A frame is read again as its envelope, so no two envelopes have one frame, and none begins another.
-use Rattle.std.proofs.Common.{◌≡◌, ℕ, ◌+◌, ◌^◌, ◌<◌, ◌≤◌, Bool, true, false, List, [], ◌∷◌, ◌++◌, length, Option, Result, Ok, Err, refl, sym, ap, subst, ◌∙◌, append_assoc, lit≤, arith}
-use Rattle.std.specs.Prelude.{nat_lt, nat_le, ◌==◌, ◌||◌, ◌&&◌}
-use Rattle.std.specs.Int.{w16, w32, w64}
+use Rattle.std.proofs.Common.{◌≡◌, ℕ, ◌≤◌, true, List, [], ◌∷◌, ◌++◌, Ok, refl, sym, ap, ◌∙◌, lit≤}
+use Rattle.std.specs.Prelude.{nat_le, ◌&&◌}
 use Rattle.std.proofs.lemmas.List.{append-nil}
 use Rattle.rec_id.specs.Identity.{IsIdentity}
 use Rattle.rec_id.specs.declared.item.Item.{Item}
@@ -11,10 +10,10 @@ use Rattle.view_config.specs.declared.edition.Edition.TheVariants.{One, Two}
 use Rattle.lazy_msgs.specs.declared.msg.Envelope.{Envelope}
 use Rattle.lazy_msgs.specs.declared.msg.Msg.{Msg}
 use Rattle.lazy_msgs.specs.declared.msg.Msg.TheVariants.{Append, AppendAck, Put, DataAck, Rejected, Place, Placed, Copy, Copied, Order, Ordered, Stable, Probe, ProbeAck, TailReady, Fetch, Part, Flush, FlushCopy, Flushed, Seal, Sealed, SealedEmpty, NewView, Started, AskView, ViewIs, Claim, Trim, TrimAck, TrimmedAt}
-use Rattle.lazy_msgs.specs.Frame.{two, four, eight, bytes_form, optional_form, list_form, id_form, item_form, cell_form, placed_form, config_form, marks_form, version_of, kind_of, fields_form, head_form, frame}
-use Rattle.lazy_msgs.specs.FrameLimits.{ListFits, ItemFits, CellFits, PlacedFits, IsTwo, MessageFits, Fits}
+use Rattle.lazy_msgs.specs.Frame.{two, eight, list_form, id_form, item_form, cell_form, placed_form, version_of, kind_of, fields_form, frame}
+use Rattle.lazy_msgs.specs.FrameLimits.{ListFits, ItemFits, CellFits, PlacedFits, MessageFits, Fits}
 use Rattle.wire_frames.specs.Laws.{OneForm}
-use Rattle.wire_frames.specs.Reading.{Taken, Reader, ◌>>=◌, done, number_at, counted_at, node_at, addressee_at, time_at, id_at, bytes_at, optional_at, item_at, cell_at, placed_at, list_at, config_at, window_at, fields_at, edition_at, kind_at, last_kind, envelope_at, frame_at, four_fields}
+use Rattle.wire_frames.specs.Reading.{Taken, ◌>>=◌, done, node_at, addressee_at, time_at, id_at, item_at, cell_at, placed_at, list_at, fields_at, edition_at, kind_at, last_kind, envelope_at, frame_at, four_fields}
 use Rattle.wire_frames.proofs.Again.{Reads, reads_then, reads_done, reads_four, reads_counted, reads_node, reads_addressee, reads_time, reads_one, reads_two_fields, reads_three_fields, reads_four_fields}
 use Rattle.wire_frames.proofs.AgainFields.{reads_id, reads_bytes, reads_optional, reads_item, reads_cell, reads_placed, reads_list, reads_config, reads_window}
 

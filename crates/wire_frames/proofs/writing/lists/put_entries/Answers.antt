@@ -1,5 +1,4 @@
 use Rattle.std.proofs.lemmas.List.Elements.{All-from_recursion}
-use Rattle.std.specs.List.{AllByRecursion}
 use Rattle.lazy_msgs.specs.FrameLimits.{PlacedFits}
 use Rattle.wire_frames.proofs.writing.lists.put_entries.Goals as goal
 

@@ -1,4 +1,4 @@
-use Rattle.std.proofs.Common.{◌≡◌, [], ◌∷◌, ◌++◌, length, take}
+use Rattle.std.proofs.Common.{◌≡◌, ◌++◌, take}
 use Rattle.std.specs.List.{flat_map}
 use Rattle.lazy_msgs.specs.Frame.{four, word_form}
 use Rattle.wire_frames.proofs.writing.lists.put_marks.Given as goal

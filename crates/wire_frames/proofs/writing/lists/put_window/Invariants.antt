@@ -1,4 +1,4 @@
-use Rattle.std.proofs.Common.{◌≡◌, [], ◌∷◌, ◌++◌, length, take}
+use Rattle.std.proofs.Common.{◌≡◌, ◌++◌, length, take}
 use Rattle.std.specs.List.{flat_map}
 use Rattle.lazy_msgs.specs.Frame.{two, marks_form}
 use Rattle.wire_frames.proofs.writing.lists.put_window.Given as goal
