@@ -1,6 +1,14 @@
+use Rattle.std.specs.Prelude.{◌*◌, List, map}
+use Rattle.std.specs.List.{range_with_len}
+use Rattle.view_config.specs.Shape.{Dimensions}
+use Rattle.lazy_rules.specs.ShardState.{ShardState}
 use Rattle.lazy_core.specs.declared.world.World.TheInside.{Inside}
 use Rattle.lazy_core.specs.Early.{IsSound}
-use Rattle.lazy_rules.specs.WorldState.{WorldState}
+use Rattle.lazy_rules.specs.WorldState.{WorldState, first_shard_at}
+
+-- the shard replicas of a shape at first, to which nothing happens in such a world
+abbrev pub first_shards : Dimensions → List ShardState
+first_shards shape = map (first_shard_at shape) (range_with_len 0 (shape.shards * shape.copies))
 
 -- what contracts see in a world
 abbrev pub world_of : Inside → WorldState
@@ -8,6 +16,7 @@ world_of a = record {
   shape = a.shape;
   clients = a.clients.items;
   seqs = a.seqs.items;
+  shards = first_shards a.shape;
   times = a.ledger.times;
   crashed = a.crashed.items;
   sent = a.ledger.sent;

@@ -1,8 +1,8 @@
 -- What is seen after marks.
 use Rattle.std.proofs.Common.{◌≡◌, ◌≢◌, ℕ, zero, suc, ◌+◌, ◌-◌, ◌*◌, ◌<◌, ◌≤◌, List, [], ◌∷◌, ◌++◌, Bool, true, false, cond, ◌&&◌, ◌||◌, eqb, leb, length, length-set, get_or, append_assoc, append-nil, max, Option, Some, None, inl, inr, sym, ap, subst, ◌∙◌, refl, arith}
 use Rattle.std.specs.Prelude.{◌/◌, slice_get, slice_set, replicate}
-use Rattle.std.proofs.lemmas.List.{length-replicate}
-use Rattle.std.proofs.lemmas.Option.{slice_get-get_or}
+use Rattle.std.proofs.lemmas.List.{length-replicate, set_past, get_or_past}
+use Rattle.std.proofs.lemmas.Option.{slice_get-get_or, slice_get_cases, get_or_from_slice_get}
 use Rattle.std.proofs.lemmas.Bool.{cases_lt, cases_eq, eq-eqb, ne_eqb, lt-ltb, le-leb, lt-leb, leb-true, or_right, or_from}
 use Rattle.rec_id.specs.Identity.{Identity}
 use Rattle.rec_id.specs.declared.marks.Marks.{Marks}
@@ -13,7 +13,7 @@ use Rattle.view_config.specs.Limits.{window_of as width_of}
 use Rattle.view_config.specs.Shape.{Dimensions}
 use Rattle.lazy_rules.specs.Ids.{same_id, has_id}
 use Rattle.lazy_rules.specs.SeqState.{empty_window}
-use Rattle.lazy_rules.specs.Windows.{seen_by, has_seen, marked_by, marked_in, marked_all, top_of}
+use Rattle.lazy_rules.specs.Windows.{marks_of, has_seen, marked_in, marked_all, top_of}
 use Rattle.lazy_rules.proofs.Bits.{bit_of-words_where, length-words_where}
 
 -- marking leaves the words as many
@@ -86,11 +86,40 @@ slice_get-set_other (z ∷ xs) zero (suc j) y apart = refl
 slice_get-set_other (z ∷ xs) (suc i) zero y apart = refl
 slice_get-set_other (z ∷ xs) (suc i) (suc j) y apart = slice_get-set_other xs i j y (λ e. apart (ap suc e))
 
+-- seen by the marks of a client, where the window has them
+abbrev seen_by : Option Marks → ℕ → Bool
+seen_by None number = false
+seen_by (Some marks) number = is_seen marks number
+
+-- the window with this client's marks, and one number of it more
+abbrev marked_by : List Marks → ℕ → Option Marks → ℕ → List Marks
+marked_by window client None number = window
+marked_by window client (Some marks) number = slice_set window client (mark marks number)
+
+-- no number from 1 on is seen by marks of no words
+unseen : (n : ℕ) → 1 ≤ n → is_seen (no_marks 0) n ≡ false
+unseen n some =
+    or_from (is_marked (no_marks 0) n) (is_stale (no_marks 0) n)
+    (ap (λ (b : Bool). b && bit_of (no_marks 0).bits (0 - n)) (lt-leb n 0 some))
+    (lt-leb (n + window_of (no_marks 0)) 0 (omega arith))
+
+seen-by : (window : List Marks) (client n : ℕ) → 1 ≤ n → is_seen (marks_of window client) n ≡ seen_by (slice_get window client) n
+seen-by window client n some = elim (slice_get_cases window client).1 [
+  | inl here ↦ rw (here.2, get_or_from_slice_get window client here.0 (no_marks 0) here.2)
+  | inr past ↦ rw (past.1, get_or_past window client (no_marks 0) past.0) (unseen n some)
+]
+
+marked-by : (window : List Marks) (id : Identity) → marked_in window id ≡ marked_by window id.client (slice_get window id.client) id.number
+marked-by window id = elim (slice_get_cases window id.client).1 [
+  | inl here ↦ rw (here.2, get_or_from_slice_get window id.client here.0 (no_marks 0) here.2)
+  | inr past ↦ rw past.1 (set_past window id.client (mark (marks_of window id.client) id.number) past.0)
+]
+
 -- what the window has of a client after a mark of that client, and of another
 own_mark : (window : List Marks) (id : Identity) (marks : Marks) → slice_get window id.client ≡ Some marks
     → slice_get (marked_in window id) id.client ≡ Some (mark marks id.number)
 own_mark window id marks here =
-    rw here (slice_get-set window id.client marks (mark marks id.number) here)
+    rw (marked-by window id, here) (slice_get-set window id.client marks (mark marks id.number) here)
 
 other_mark : (window : List Marks) (client number : ℕ) (marks : Option Marks) (other : ℕ) → client ≢ other
     → slice_get (marked_by window client marks number) other ≡ slice_get window other
@@ -122,16 +151,24 @@ module _ (window : List Marks) (id : Identity) (marks : Marks) (here : slice_get
       ∙ is_seen-mark marks id.number n some
       ∙ rw (eq-eqb id.client id.client refl, here, eqb_turned n id.number) refl
 
-  pub seen_at : (client n : ℕ) → 1 ≤ n → seen_by (slice_get (marked_in window id) client) n ≡ seen_then client n
+  seen_at : (client n : ℕ) → 1 ≤ n → seen_by (slice_get (marked_in window id) client) n ≡ seen_then client n
   seen_at client n some = elim (cases_eq id.client client) [
     | inl same ↦ subst (λ (c : ℕ). seen_by (slice_get (marked_in window id) c) n ≡ seen_then c n) same (own_seen n some)
     | inr apart ↦
-        ap (λ (o : Option Marks). seen_by o n) (other_mark window id.client id.number (slice_get window id.client) client apart)
+        ap (λ (w : List Marks). seen_by (slice_get w client) n) (marked-by window id)
+        ∙ ap (λ (o : Option Marks). seen_by o n) (other_mark window id.client id.number (slice_get window id.client) client apart)
         ∙ or_false (seen_by (slice_get window client) n)
         ∙ ap (λ (b : Bool). (b && eqb id.number n) || seen_by (slice_get window client) n || false) (sym (ne_eqb id.client client apart))
         ∙ ap (λ (b : Bool). (eqb id.client client && eqb id.number n) || seen_by (slice_get window client) n || (b && leb (n + window_of marks) new_top))
         (sym (ne_eqb client id.client (λ e. apart (sym e))))
   ]
+
+-- one more mark adds exactly that identity, and what is stale then
+pub seen_one_more : (window : List Marks) (id other : Identity) (marks : Marks) → slice_get window id.client ≡ Some marks → 1 ≤ other.number → has_seen (marked_in window id) other ≡ (same_id id other || has_seen window other || (eqb other.client id.client && leb (other.number + window_of marks) (max marks.top id.number)))
+seen_one_more window id other marks here some =
+    seen-by (marked_in window id) other.client other.number some
+    ∙ seen_at window id marks here other.client other.number some
+    ∙ ap (λ (b : Bool). same_id id other || b || (eqb other.client id.client && leb (other.number + window_of marks) (max marks.top id.number))) (sym (seen-by window other.client other.number some))
 
 -- ---- a list of marks
 
@@ -222,7 +259,8 @@ all_more : (width : ℕ) (ids more : List Identity) (window : List Marks) → Al
 all_more width ids [] window h = subst (λ (list : List Identity). AllAfter width list window) (sym (append-nil ids)) h
 all_more width ids (id ∷ more) window h =
     subst (λ (list : List Identity). AllAfter width list (marked_all (marked_in window id) more)) (append_assoc ids (id ∷ []) more)
-    (all_more width (ids ++ id ∷ []) more (marked_in window id) (one_more width ids window id (slice_get window id.client) refl h))
+    (all_more width (ids ++ id ∷ []) more (marked_in window id)
+    (subst (λ (w : List Marks). AllAfter width (ids ++ id ∷ []) w) (sym (marked-by window id)) (one_more width ids window id (slice_get window id.client) refl h)))
 
 length-marked : (window : List Marks) (client number : ℕ) (o : Option Marks) → length (marked_by window client o number) ≡ length window
 length-marked window client number None = refl
@@ -230,7 +268,7 @@ length-marked window client number (Some marks) = length-set window client (mark
 
 length-marked_all : (window : List Marks) (ids : List Identity) → length (marked_all window ids) ≡ length window
 length-marked_all window [] = refl
-length-marked_all window (id ∷ ids) = length-marked_all (marked_in window id) ids ∙ length-marked window id.client id.number (slice_get window id.client)
+length-marked_all window (id ∷ ids) = length-marked_all (marked_in window id) ids ∙ ap length (marked-by window id) ∙ length-marked window id.client id.number (slice_get window id.client)
 
 slice_get-replicate : {X : Type 0} (n i : ℕ) (x y : X) → slice_get (replicate n x) i ≡ Some y → x ≡ y
 slice_get-replicate zero i x y e = absurd (none_some e)
@@ -268,5 +306,4 @@ has_seen-marked_all shape ids id inside some =
     length-marked_all (empty_window shape) ids ∙ length-replicate shape.clients (no_marks (width_of shape.edition / 64)) in
     let there : slice_get window id.client ≡ Some (get_or window id.client (no_marks 0)) =
     slice_get-get_or window id.client (no_marks 0) (omega arith) in
-    ap (λ (o : Option Marks). seen_by o id.number) there
-    ∙ (all_more (width_of shape.edition) [] ids (empty_window shape) start id.client (get_or window id.client (no_marks 0)) there).seen id.number some
+    (all_more (width_of shape.edition) [] ids (empty_window shape) start id.client (get_or window id.client (no_marks 0)) there).seen id.number some
