@@ -8,10 +8,12 @@ mod ledger;
 mod line;
 mod sending;
 mod seq_node;
+mod trail;
 mod world;
 
 pub use append_client::{AppendClient, AppendState};
 pub use ledger::WEIGHT_LIMIT;
 pub use line::LineError;
 pub use seq_node::SeqNode;
+pub use trail::{Diary, DiaryEntry, DiaryList, EntryList, HolderLine, HolderLines, Trail};
 pub use world::{MESSAGES_LIMIT, World};

@@ -106,3 +106,34 @@ impl Cell {
         self.clone()
     }
 }
+
+#[cfg(test)]
+mod tests {
+    use super::*;
+    use crate::{Entry, Event, Marks};
+    use plain_lists::Sequence;
+    use std::test::Fail;
+
+    #[test]
+    fn copies_are_of_the_same_kind(rt: HostRuntime) -> Result<(), Fail> {
+        let id = RecordId::new(1, 2).ok().ok_or("an identity")?;
+        let bytes = Some(Bytes::copy(rt.alloc(), b"a")?);
+        let item = Item { id, bytes }.copy()?;
+        assert!(rt; item.id == id && item.bytes.is_some());
+        let cell = Cell {
+            id,
+            body: Body::Open,
+        }
+        .copy()?;
+        assert!(rt; cell.id == id && matches!(cell.body.copy()?, Body::Open));
+        assert!(rt; matches!(Entry::Noop(id).copy()?, Entry::Noop(_)));
+        assert!(rt; matches!(Event::Acked(id).copy()?, Event::Acked(_)));
+        let marks = Marks {
+            top: 9,
+            bits: Sequence::new(rt.alloc()),
+        }
+        .copy()?;
+        assert_eq!(rt; marks.top, 9);
+        Ok(())
+    }
+}

@@ -83,3 +83,26 @@ impl Config {
         self.clone()
     }
 }
+
+#[cfg(test)]
+mod tests {
+    use super::*;
+    use crate::{Mode, Shape};
+    use std::test::Fail;
+
+    #[test]
+    fn initial_configurations(rt: HostRuntime) -> Result<(), Fail> {
+        for (seq, spares, shards, copies, want_seq, want_shard) in [
+            (2, 1, 1, 2, [257, 258].as_slice(), [264, 265].as_slice()),
+            (1, 0, 1, 1, [257].as_slice(), [264].as_slice()),
+        ] {
+            let shape = Shape::new(Mode::M, seq, spares, shards, copies, 1).ok_or("a shape")?;
+            let config = Config::initial(rt.alloc(), &shape)?.copy()?;
+            assert_eq!(rt; config.view, 1);
+            assert_eq!(rt; config.seq.as_slice(), want_seq);
+            assert_eq!(rt; config.shards.len(), 1);
+            assert_eq!(rt; config.shards.at(0).as_slice(), want_shard);
+        }
+        Ok(())
+    }
+}
