@@ -13,6 +13,7 @@ pub fn a_broken_clause_is_told_with_its_first_pair()
     ensures unique { IsFirstBroken (Invoke a x ∷ Invoke b y ∷ []) (Kept b y ∷ Kept a x ∷ Kept a x ∷ Kept b y ∷ []) unique 0 3 }
     ensures invoked { IsFirstBroken (Invoke a x ∷ []) (Kept a x ∷ Kept b y ∷ Noop c ∷ []) invoked 1 0 }
     ensures finished { IsFirstBroken (Invoke a x ∷ Invoke b y ∷ Invoke a x ∷ Invoke b y ∷ []) [] finished 2 0 }
+    ensures finished_twice { IsFirstBroken (Invoke a x ∷ Acked a ∷ Acked a ∷ []) (Kept a x ∷ []) finished 2 0 }
     ensures ordered { IsFirstBroken (Invoke a x ∷ Acked a ∷ Invoke c x ∷ Invoke b y ∷ []) (Kept b y ∷ Kept a x ∷ Kept c x ∷ []) ordered 1 3 }
     ensures slices { IsFirstBroken (Begin 0 1 (Range 0 0) ∷ Answer 0 1 0 [] None ∷ Answer 0 1 0 [] None ∷ Answer 0 1 0 [] None ∷ []) [] slices 2 0 }
     ensures covered { IsFirstBroken (Invoke a x ∷ Acked a ∷ Begin 1 1 (Tail 0) ∷ Answer 1 1 0 (Kept a x ∷ []) (Some 1) ∷ Begin 1 2 (Tail 0) ∷ Answer 1 2 0 [] (Some 0) ∷ []) (Kept a x ∷ []) covered 1 4 }

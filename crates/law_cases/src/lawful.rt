@@ -40,6 +40,8 @@ pub fn reads_of_every_outcome_are_lawful()
     ensures an_order { Lawful (Invoke a x ∷ Invoke b y ∷ Seen 0 1 (b ∷ []) ∷ Invoke c x ∷ []) (Kept a x ∷ Kept b y ∷ Kept c x ∷ []) }
     ensures no_order { Lawful (Seen 0 5 [] ∷ Invoke a x ∷ []) (Kept a x ∷ []) }
     ensures trims_of_two_clients { Lawful (Invoke a x ∷ Invoke b y ∷ TrimAsk 0 1 1 ∷ TrimDone 0 1 1 ∷ TrimAsk 0 2 2 ∷ TrimAsk 1 2 1 ∷ TrimDone 1 2 1 ∷ TrimDone 0 2 2 ∷ []) (Gone a ∷ Gone b ∷ []) }
+    ensures a_trim_of_one_floor_asked_with_two { Lawful (TrimAsk 0 1 1 ∷ TrimAsk 0 1 2 ∷ TrimDone 0 1 1 ∷ []) [] }
+    ensures a_tail_below_a_trim { Lawful (Invoke a x ∷ TrimAsk 0 1 1 ∷ TrimDone 0 1 1 ∷ Begin 1 1 (Tail 0) ∷ Answer 1 1 0 [] (Some 0) ∷ []) (Gone a ∷ []) }
     ensures one_read_after_the_other { Lawful (Begin 0 1 (Range 0 0) ∷ Answer 0 1 0 [] None ∷ Begin 0 2 (Range 0 0) ∷ Answer 0 2 0 [] None ∷ []) [] }
     ensures the_later_number_first { Lawful (Begin 0 2 (Range 0 0) ∷ Answer 0 2 0 [] None ∷ Begin 0 1 (Range 0 0) ∷ Answer 0 1 0 [] None ∷ []) [] }
     ensures a_read_after_a_trimmed_one { Lawful (TrimAsk 1 1 1 ∷ Begin 0 2 (Range 0 1) ∷ Trimmed 0 2 1 ∷ Begin 0 1 (Range 0 1) ∷ Trimmed 0 1 1 ∷ Begin 0 3 (Range 1 1) ∷ Answer 0 3 1 [] None ∷ []) [] }

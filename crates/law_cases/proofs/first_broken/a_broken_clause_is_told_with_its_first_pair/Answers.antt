@@ -7,6 +7,7 @@ returns c = record {
   unique = first_broken _ _ _ _ _ refl;
   invoked = first_broken _ _ _ _ _ refl;
   finished = first_broken _ _ _ _ _ refl;
+  finished_twice = first_broken _ _ _ _ _ refl;
   ordered = first_broken _ _ _ _ _ refl;
   slices = first_broken _ _ _ _ _ refl;
   covered = first_broken _ _ _ _ _ refl;
