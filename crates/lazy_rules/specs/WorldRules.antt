@@ -6,6 +6,7 @@ use Rattle.view_config.specs.declared.nodes.Node.{Node}
 use Rattle.view_config.specs.declared.nodes.Node.TheVariants.{Client, Controller, Seq, Shard}
 use Rattle.view_config.specs.declared.edition.Edition.{Edition}
 use Rattle.view_config.specs.declared.edition.Edition.TheVariants.{One, Two}
+use Rattle.view_config.specs.declared.nodes.TheConstants.{CONTROLLER}
 use Rattle.view_config.specs.Shape.{node_of}
 use Rattle.lazy_msgs.specs.declared.input.Input.{Input}
 use Rattle.lazy_msgs.specs.declared.input.Input.TheVariants.{Tick as TickInput, Grace as GraceInput, Peek as PeekInput}
@@ -30,7 +31,7 @@ use Rattle.lazy_rules.specs.ShardState.{ShardState}
 use Rattle.lazy_rules.specs.WorldState.{WorldState, shard_place}
 
 -- What events do to a world. Readers and the controller have no states here yet: a step of theirs
--- leaves all as it was, and they refuse nothing.
+-- raises the time of their node, and else leaves all as it was; and they refuse nothing.
 
 -- the time of a step of this node that receives a message of this time, 0 where it receives none
 abbrev pub step_time : WorldState → ℕ → ℕ → ℕ
@@ -88,7 +89,8 @@ received w envelope (Some (Client c)) = client_received w c envelope (slice_get 
 received w envelope (Some (Seq i)) = seq_received w i envelope (slice_get w.seqs i)
 received w envelope (Some (Shard i j)) =
     shard_received w (shard_place w.shape i j) envelope (slice_get w.shards (shard_place w.shape i j))
-received w envelope _ = w
+received w envelope (Some Controller) = stepped w envelope.to envelope.time [] []
+received w envelope None = w
 
 -- Deliver
 abbrev pub delivered : WorldState → Option Envelope → WorldState
@@ -122,7 +124,8 @@ given w node input (Some (Client c)) = client_given w c input (slice_get w.clien
 given w node input (Some (Seq i)) = seq_given w node i input (slice_get w.seqs i)
 given w node input (Some (Shard i j)) =
     shard_given w node (shard_place w.shape i j) input (slice_get w.shards (shard_place w.shape i j))
-given w node input _ = w
+given w node input (Some Controller) = stepped w node 0 [] []
+given w node input None = w
 
 -- the identities that a shard replica has in its order in [from, to)
 abbrev pub ids_in : List Cell → List Identity
@@ -161,9 +164,9 @@ after w (Deliver k) = delivered w (message_at w k)
 after w (Tick node) = given w node TickInput (node_of w.shape node)
 after w (Grace node) = given w node GraceInput (node_of w.shape node)
 after w (Crash node) = crashes w node
-after w (Ask c ask) = w
-after w (Trim c floor) = w
-after w (Suspect node) = w
+after w (Ask c ask) = stepped w c 0 [] []
+after w (Trim c floor) = stepped w c 0 [] []
+after w (Suspect node) = stepped w CONTROLLER 0 [] []
 
 -- why a client's post is refused, if it is
 abbrev pub posting_refused : Option PostRefused → Option EventRefused
