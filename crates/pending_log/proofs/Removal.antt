@@ -2,7 +2,7 @@
 use Rattle.std.proofs.Common.{◌≡◌, ℕ, suc, ◌+◌, ◌-◌, ◌<◌, ◌≤◌, List, [], ◌∷◌, ◌++◌, Bool, true, false, not, cond, ◌||◌, ◌⊎◌, get_or, length, take, drop, inl, inr, sym, ap, ◌∙◌, refl, arith}
 use Rattle.std.specs.List.{list_all, filter}
 use Rattle.std.proofs.lemmas.Bool.{and_parts, and_from, or_left, or_right, or_cases, or_parts, not-true}
-use Rattle.std.proofs.lemmas.List.{append-nil, append_assoc, drop_all, drop_more, drop-drop, length_push, take-append-drop, take_at, drop_at, length-append, length-drop, length-take-le}
+use Rattle.std.proofs.lemmas.List.{append-nil, append_assoc, drop_all, drop_more, length_push, take-append-drop, take_at, drop_at, length-append, length-drop, length-take-le}
 use Rattle.std.proofs.lemmas.List.Elements.{filter-append, filter_more}
 use Rattle.std.proofs.lemmas.List.Filters.{length-filter_both}
 use Rattle.rec_id.specs.Identity.{Identity}
@@ -183,13 +183,3 @@ module _ (ids : List Identity) (before : List Item) (room count unmet kept : ℕ
             ap (without ids) empty ∙ sym empty
       ] in
       split ∙ ap (λ (l : List Item). staying ++ l) (sym same) ∙ sym (filter-append (stays ids) (take count before) others) ∙ ap (without ids) whole
-
--- ---- items that are taken out from the front
-pub drop_popped : (before now after : Pending) (count : ℕ) (item : Item) → now ≡ record before { items = drop count before.items }
-    → now.items ≡ item ∷ after.items → after.capacity ≡ now.capacity → after ≡ record before { items = drop (count + 1) before.items }
-drop_popped before now after count item is popped same_room =
-    let items : after.items ≡ drop (count + 1) before.items =
-    ap (drop 1) (sym popped ∙ ap (λ (log : Pending). log.items) is) ∙ drop-drop 1 count before.items in
-    ap (λ (l : List Item). let made : Pending = record { items = l; capacity = after.capacity } in made) items
-    ∙ ap (λ (room : ℕ). let made : Pending = record { items = drop (count + 1) before.items; capacity = room } in made)
-    (same_room ∙ ap (λ (log : Pending). log.capacity) is)

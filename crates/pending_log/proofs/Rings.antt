@@ -1,6 +1,6 @@
 -- A ring keeps its words beside its items.
-use Rattle.std.proofs.Common.{◌≡◌, ℕ, ◌<◌, List, [], ◌∷◌, ◌++◌, length, take, drop, map, sym, ap, ◌∙◌, arith}
-use Rattle.std.proofs.lemmas.List.{map-append, take-map, drop-map, take-append-drop, length-map, length-append, length-take, length-drop, length_push, map_push}
+use Rattle.std.proofs.Common.{◌≡◌, ℕ, ◌-◌, ◌<◌, ◌≤◌, List, [], ◌∷◌, ◌++◌, length, take, drop, map, sym, ap, ◌∙◌, arith}
+use Rattle.std.proofs.lemmas.List.{map-append, take-map, drop-map, take-append-drop, take_at, length-map, length-append, length-take, length-drop, length_push, map_push}
 use Rattle.rec_id.specs.Identity.{IsIdentity}
 use Rattle.rec_id.specs.declared.item.Item.{Item}
 use Rattle.pending_log.specs.Kept.{IsKept}
@@ -32,5 +32,17 @@ module _ (items : List Item) (words : List ℕ) (room word_room : ℕ) (kept : I
             ∙ ap (λ (l : List ℕ). map word_of (drop n items) ++ l) (take-map word_of n items)
             ∙ sym (map-append word_of (drop n items) (take n items));
         within = omega (arith, length-append (drop n items) (take n items), length-drop n items, length-take n items, kept.within);
+        same_room = kept.same_room;
+      }
+
+  pub kept_drop : (n : ℕ) → n ≤ length items → IsKept (drop n items) (take (length items - n) (drop n words ++ take n words)) room word_room
+  kept_drop n inside =
+      let valid = valid_parts (take n items) (drop n items) (rw (take-append-drop n items) kept.valid) in
+      record {
+        valid = valid.1;
+        packed_is =
+            take_at (drop n words) (take n words) (length items - n) (omega (arith, length-drop n words, word_count))
+            ∙ ap (drop n) kept.packed_is ∙ drop-map word_of n items;
+        within = omega (arith, length-drop n items, kept.within);
         same_room = kept.same_room;
       }

@@ -111,9 +111,7 @@ impl PendingLog {
         requires { n ≤ length self.old.items }
         ensures { self.new ≡ record self.old { items = drop n self.old.items } }
     {
-        for _item in 0..n {
-            let _ = self.ring.pop();
-        }
+        self.ring.drop_front(n);
     }
 
     /// Copies of the first `n` items, or of all where there are fewer.

@@ -92,6 +92,19 @@ impl Ring {
         }
     }
 
+    /// Takes out the first `n` items.
+    pub(crate) fn drop_front(&mut self, n: usize)
+        requires { n ≤ length self.old.items }
+        ensures { self.new ≡ record self.old { items = drop n self.old.items } }
+    {
+        let rest = self.items.len() - n;
+        self.words.rotate_left(n);
+        self.words.truncate(rest);
+        for _item in 0..n {
+            let _ = self.items.pop_front();
+        }
+    }
+
     /// Moves the last `count` items before the others.
     pub(crate) fn turn(&mut self, count: usize)
         requires { count ≤ length self.old.items }
