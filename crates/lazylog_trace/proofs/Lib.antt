@@ -1,0 +1,5 @@
+pub mod Decimals
+pub mod Asking
+pub mod Counting
+pub mod Doings
+pub mod Lengths

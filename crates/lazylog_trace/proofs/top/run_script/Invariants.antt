@@ -1,0 +1,14 @@
+use Rattle.std.proofs.Common.{◌≡◌, ◌≤◌, length}
+use Rattle.lazylog_trace.specs.Session.{IsUnderWay, bytes_left}
+use Rattle.lazylog_trace.proofs.top.run_script.Given as goal
+
+abbrev pub invariant-loop-count : goal.invariant-loop-count
+invariant-loop-count g l = record {
+  kept : IsUnderWay l.session;
+  piece : length l.piece ≡ 4096;
+  grows : g.K.Sink.faults l.fn.sink ≤ g.K.Sink.faults l.sink;
+  source_grows : g.S.Source.faults l.fn.source ≤ g.S.Source.faults l.source;
+}
+
+abbrev pub decreases-loop-count : goal.decreases-loop-count
+decreases-loop-count g l = bytes_left l.session

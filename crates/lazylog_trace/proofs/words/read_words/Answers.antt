@@ -1,0 +1,44 @@
+use Rattle.std.proofs.Common.{rules, refl, arith}
+use Rattle.view_config.specs.Shape.{Dimensions}
+use Rattle.view_config.specs.declared.edition.Edition.TheVariants.{One}
+use Rattle.view_config.specs.declared.edition.Mode.TheVariants.{M}
+use Rattle.lazylog_trace.proofs.Asking.{Reads, AreWords, asked_some, asked_none}
+use Rattle.lazylog_trace.proofs.words.read_words.Goals as goal
+
+abbrev read_of : goal.After-new → Dimensions
+read_of c = record {
+  edition = One;
+  mode = M;
+  seq = c.in_ok-number_at.field-0;
+  spares = c.in_ok-number_at-2.field-0;
+  shards = c.in_ok-number_at-3.field-0;
+  copies = c.in_ok-number_at-4.field-0;
+  clients = c.in_ok-number_at-5.field-0;
+}
+
+reads : (c : goal.After-new) → Reads c.args.words.now (read_of c)
+reads c = record {
+  count = search rules;
+  first = search rules;
+  mode = search rules;
+  seq = search rules;
+  spares = search rules;
+  shards = search rules;
+  copies = search rules;
+  clients = search rules;
+}
+
+small : (c : goal.After-new) → AreWords (read_of c)
+small c = record {
+  seq = search rules;
+  spares = search rules;
+  shards = search rules;
+  copies = search rules;
+  clients = search rules;
+}
+
+pub returns-clause-some : goal.returns-clause-some
+returns-clause-some c = asked_some c.args.words.now (read_of c) c.new.result (reads c) refl refl c.new.ensures.value c.new.ensures.valid
+
+pub returns-clause-none : goal.returns-clause-none
+returns-clause-none c = asked_none c.args.words.now (read_of c) c.new.result (reads c) (small c) c.new.ensures.valid

@@ -1,0 +1,41 @@
+//! The trace program: a whole log in one process, driven by a script that says which event happens
+//! next.
+//!
+//! Here the words and the standard streams are handed over, and nothing else. `top.rt` is the
+//! program.
+#![tactic(auto)]
+
+mod handling;
+mod numbers;
+mod script;
+mod session;
+mod texts;
+mod top;
+mod words;
+
+use io_edges::{StdSink, StdSource};
+use lazy_core::Trail;
+use plain_lists::Sequence;
+use rec_id::{Text, TextList};
+use std::process::ExitCode;
+use std::{env, io};
+
+/// The words after the program's name.
+fn words_of(rt: &HostRuntime) -> io::Result<TextList> {
+    let mut words = Sequence::new(rt.alloc());
+    for word in env::args(rt)?.skip(1) {
+        words.push(Text::from_vec(word.into_bytes()))?;
+    }
+    Ok(words)
+}
+
+fn main(rt: HostRuntime) -> ExitCode {
+    let Ok(words) = words_of(&rt) else {
+        return ExitCode::from(6);
+    };
+    let mut source = StdSource::new(rt.stdin());
+    let mut sink = StdSink::new(rt.stdout());
+    let mut trail = Trail::new(rt.alloc());
+    let status = top::trace_top(rt.alloc(), &words, &mut source, &mut sink, &mut trail);
+    ExitCode::from(status.code())
+}

@@ -1,0 +1,50 @@
+//! The words that the program is called with.
+
+ghost use Rattle.std.specs.Prelude.{◌≡◌, ◌≢◌, ◌↔◌, ◌<◌, ◌^◌, ℕ, length, slice_get, Some, IfSome, IfNone, IsTrue, decimal};
+ghost use Rattle.lazylog_trace.specs.Words.{AskFor, IsTraceWords};
+
+use crate::numbers::read_number;
+use rec_id::TextList;
+use view_config::{Mode, Shape};
+
+/// The number that word `i` is the decimal text of.
+fn number_at(words: &TextList, i: usize) -> Option<u32>
+    requires { i < length words.now }
+    ensures some { IfSome result (λ number. slice_get words.now i ≡ Some (decimal number)) }
+    ensures none { IfNone result ((number : ℕ) → number < 2 ^ 32 → slice_get words.now i ≢ Some (decimal number)) }
+{
+    read_number(words.at(i).as_slice())
+}
+
+/// Whether word `i` is this one.
+fn is_word(words: &TextList, i: usize, word: &[u8]) -> bool
+    requires { i < length words.now }
+    ensures { IsTrue result ↔ (slice_get words.now i ≡ Some word.now) }
+{
+    words.at(i).as_slice() == word
+}
+
+/// The shape that the words `trace m SEQ SPARES SHARDS COPIES CLIENTS` name, `None` for any other
+/// words and for numbers outside their limits.
+pub fn read_words(words: &TextList) -> Option<Shape>
+    ensures some { IfSome result (λ shape. AskFor words.now shape) }
+    ensures none { IfNone result (¬ IsTraceWords words.now) }
+{
+    if words.len() != 7 {
+        return None;
+    }
+    if !is_word(words, 0, b"trace") {
+        return None;
+    }
+    if !is_word(words, 1, b"m") {
+        return None;
+    }
+    Shape::new(
+        Mode::M,
+        number_at(words, 2)?,
+        number_at(words, 3)?,
+        number_at(words, 4)?,
+        number_at(words, 5)?,
+        number_at(words, 6)?,
+    )
+}
