@@ -7,9 +7,13 @@
 mod config;
 mod edition;
 mod nodes;
+mod role;
 mod shape;
+mod without;
 
 pub use config::{Config, NodeList, ShardList};
 pub use edition::{Edition, Mode};
 pub use nodes::{BOARD, CONTROLLER, Node, client_id, seq_id, shard_id};
+pub use role::Role;
 pub use shape::Shape;
+pub use without::ConfigError;
