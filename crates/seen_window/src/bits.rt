@@ -8,6 +8,7 @@ ghost use Rattle.seen_window.specs.Shifted.{shifted};
 use lane_scan::count_bits;
 
 /// Whether bit `i` is set.
+#[inline(always)]
 pub(crate) fn has_bit(bits: &[u64], i: usize) -> bool
     requires { i < 64 * length bits.now }
     ensures { result ≡ bit_of bits.now i }

@@ -74,6 +74,7 @@ impl ClientMarks {
         self.top
     }
 
+    #[inline(always)]
     pub(crate) fn seen(&self, number: u32) -> bool
         ensures { result ≡ is_seen self.now number }
     {

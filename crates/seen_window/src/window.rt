@@ -72,6 +72,7 @@ impl SeenWindow {
     }
 
     /// The identity was marked, or its number is more than a window below the greatest marked one.
+    #[inline]
     pub fn seen(&self, id: RecordId) -> bool
         requires { id.client < length self.now }
         ensures { result ≡ seen_in self.now id }
