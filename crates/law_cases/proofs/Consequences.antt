@@ -5,7 +5,9 @@ use Rattle.std.proofs.lemmas.Bool.{cases_lt}
 use Rattle.std.proofs.lemmas.Option.{slice_get-map}
 use Rattle.law_cases.specs.Precedes.{KeepsPrecedence, KeepsReach}
 use Rattle.law_cases.specs.Told.{IsAnswered, StandsOnce}
-use Rattle.law_cases.proofs.Order.{in_at, at_in, precedes_at, at_precedes, told_cases, told_from}
+use Rattle.law_cases.proofs.ToldAt.{told_cases, told_from}
+use Rattle.list_facts.proofs.Places.{in_at, at_in}
+use Rattle.list_facts.proofs.Precedence.{precedes_at, at_precedes}
 use Rattle.rec_id.specs.Identity.{Identity}
 use Rattle.rec_id.specs.History.{finished_id, invoked_id, begun_read, asked_from, asked_to, is_tail, told_at, told_reach, IsInvokedWith}
 use Rattle.rec_id.specs.Line.{named_id, appended_id, id_at, IsToldOf, IsToldAt}

@@ -3,5 +3,5 @@ pub mod Forms
 pub mod Clauses
 pub mod ReadClauses
 pub mod Verdicts
-pub mod Order
+pub mod ToldAt
 pub mod Consequences

@@ -1,19 +1,10 @@
 use Rattle.std.specs.Prelude.{ℕ, ◌≤◌, ◌≡◌, ◌⊎◌, List, [], ◌∷◌, Some, map}
+use Rattle.list_facts.specs.Lists.{In, Precedes}
 use Rattle.rec_id.specs.Identity.{Identity}
 use Rattle.rec_id.specs.History.{finished_id, invoked_id, told_reach}
 use Rattle.rec_id.specs.Line.{named_id, id_at}
 use Rattle.rec_id.specs.declared.entry.Entry.{Entry}
 use Rattle.rec_id.specs.declared.event.Event.{Event}
-
--- x stands in the list
-abbrev pub In : {A : Type 0} → A → List A → Type 0
-In x [] = ⊥
-In x (z ∷ zs) = (z ≡ x) ⊎ In x zs
-
--- x stands in the list with y somewhere behind it
-abbrev pub Precedes : {A : Type 0} → A → A → List A → Type 0
-Precedes x y [] = ⊥
-Precedes x y (z ∷ zs) = ((z ≡ x) × In y zs) ⊎ Precedes x y zs
 
 -- where a has finished before b is invoked, and b stands in the line, a stands in front of b
 abbrev pub KeepsPrecedence : List Event → List Entry → Type 0
