@@ -1,4 +1,4 @@
-use Rattle.std.specs.Prelude.{ℕ, ◌+◌, ◌%◌, List, [], ◌∷◌, ◌++◌, length, map, take, find, position, Option, Some, None, option_and_then, slice_get, slice_index_or, Result, Ok, Err}
+use Rattle.std.specs.Prelude.{◌≡◌, ℕ, ◌+◌, ◌%◌, List, [], ◌∷◌, ◌++◌, length, map, take, find, position, true, Option, Some, None, option_and_then, slice_get, slice_index_or, Result, Ok, Err}
 use Rattle.std.specs.Option.{is_none}
 use Rattle.rec_id.specs.Identity.{Identity, shard_of}
 use Rattle.rec_id.specs.declared.entry.Entry.{Entry}
@@ -13,7 +13,8 @@ use Rattle.view_config.specs.declared.nodes.Node.{Node}
 use Rattle.view_config.specs.declared.nodes.Node.TheVariants.{Shard}
 use Rattle.view_config.specs.Shape.{Dimensions, node_of}
 use Rattle.lazy_rules.specs.ControlState.{newest}
-use Rattle.lazy_rules.specs.Holders.{Holding, holding, is_alive}
+use Rattle.lazy_rules.specs.Holders.{Holding, holders, holding, is_alive}
+use Rattle.lazy_rules.specs.Rows.{has_node}
 use Rattle.lazy_rules.specs.ShardState.{ShardState}
 use Rattle.lazy_rules.specs.Store.{Store, bytes_of}
 use Rattle.lazy_rules.specs.WorldState.{WorldState, shard_place}
@@ -124,3 +125,8 @@ line_unless line (Some shard) = Err shard
 
 abbrev pub line_told : WorldState → ℕ → Result (List Entry) ℕ
 line_told w holder = line_unless (line_of w holder) (lost_shard w)
+
+-- the holder is there, and its line isn't lost
+pub record IsSpared (w : WorldState) (holder : ℕ) : Type 0 where
+  pub holds : has_node (holders w) holder ≡ true
+  pub kept : lost_shard w ≡ None

@@ -24,7 +24,7 @@ use Rattle.lazy_msgs.specs.declared.refused.TrimRefused.{TrimRefused}
 use Rattle.lazy_msgs.specs.Step.{Row}
 use Rattle.lazy_msgs.specs.Weight.{weight_of}
 use Rattle.lazy_rules.specs.ClientRules.{client_took, invokes, post_refusal}
-use Rattle.lazy_rules.specs.ClientNode.{ClientNode, Half, Appends, Reads, Both, half_of, client_node_took, client_node_step, controller}
+use Rattle.lazy_rules.specs.ClientNode.{ClientNode, Half, Appends, Reads, Both, half_of, half_took, client_node_step, controller}
 use Rattle.lazy_rules.specs.ClientState.{ClientState}
 use Rattle.lazy_rules.specs.ControlRules.{control_took, control_step, replaces, suspect_refusal}
 use Rattle.lazy_rules.specs.ControlState.{ControlState}
@@ -122,7 +122,7 @@ reads_received w c envelope (Some reader) = reader_did w c envelope.time (reader
 
 abbrev pub both_received : WorldState → ℕ → Envelope → Option ClientNode → WorldState
 both_received w c envelope None = w
-both_received w c envelope (Some n) = client_node_did w c envelope.time (client_node_took n envelope.from envelope.msg)
+both_received w c envelope (Some n) = client_node_did w c envelope.time (half_took Both n envelope.from envelope.msg)
 
 -- Deliver, to a client: the half that a message isn't for stays as it is
 abbrev pub client_received : WorldState → ℕ → Envelope → Half → WorldState

@@ -62,6 +62,7 @@ changes = Suspect 257
     ∷ Suspect 264
     ∷ from_node 0 AskView
     ∷ from_node 268 (Flushed 3)
+    ∷ Tick
     ∷ from_node 264 (Flushed 4)
     ∷ from_node 269 (Flushed 4)
     ∷ from_node 268 (Flushed 4)
@@ -87,6 +88,7 @@ pub changes_sends : (steps control_step control changes).sends ≡ ((257, Seal 1
     ∷ ((265, Flush fourth 1 (bare 1 ∷ item 0 2 98 ∷ [])) ∷ (268, Flush fourth 1 (item 0 1 97 ∷ bare 2 ∷ [])) ∷ [])
     ∷ []
     ∷ []
+    ∷ ((265, Flush fourth 1 (bare 1 ∷ item 0 2 98 ∷ [])) ∷ (268, Flush fourth 1 (item 0 1 97 ∷ bare 2 ∷ [])) ∷ [])
     ∷ []
     ∷ []
     ∷ []
