@@ -1,4 +1,4 @@
-use Rattle.std.specs.Prelude.{ℕ, ◌+◌, ◌^◌, List, [], ◌∷◌, ◌++◌, length, filter, Bool, not, ◌&&◌, ◌||◌, ◌==◌, nat_lt, if◌then◌else◌, Option, Some, None}
+use Rattle.std.specs.Prelude.{ℕ, ◌+◌, ◌^◌, List, [], ◌∷◌, length, filter, Bool, not, ◌||◌, ◌==◌, nat_lt, if◌then◌else◌, Option, Some, None}
 use Rattle.rec_id.specs.declared.item.Item.{Item}
 use Rattle.rec_id.specs.declared.marks.Marks.{Marks}
 use Rattle.view_config.specs.declared.config.Config.{Config}
@@ -12,7 +12,7 @@ use Rattle.lazy_msgs.specs.declared.msg.Msg.TheVariants.{Flush, Flushed, Seal, S
 use Rattle.lazy_msgs.specs.declared.refused.SuspectRefused.{SuspectRefused}
 use Rattle.lazy_msgs.specs.declared.refused.SuspectRefused.TheVariants.{NotInView, LastSeq, LastOfShard, ViewsSpent, Memory}
 use Rattle.lazy_msgs.specs.Step.{Row}
-use Rattle.lazy_rules.specs.ControlState.{ControlState, Reign, Change, Taken, Phase, Running, Sealing, Flushing, newest}
+use Rattle.lazy_rules.specs.ControlState.{ControlState, Reign, Taken, Phase, Running, Sealing, Flushing, newest}
 use Rattle.lazy_rules.specs.ClientRules.{with_node}
 use Rattle.lazy_rules.specs.Door.{is_turned_away}
 use Rattle.lazy_rules.specs.Flight.{answered_by, has_all}

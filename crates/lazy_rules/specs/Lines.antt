@@ -1,4 +1,4 @@
-use Rattle.std.specs.Prelude.{◌≡◌, ℕ, ◌+◌, ◌%◌, List, [], ◌∷◌, ◌++◌, length, map, take, find, position, true, Option, Some, None, option_and_then, slice_get, slice_index_or, Result, Ok, Err}
+use Rattle.std.specs.Prelude.{◌≡◌, ℕ, ◌+◌, ◌%◌, List, [], ◌∷◌, ◌++◌, map, take, find, position, true, Option, Some, None, option_and_then, slice_get, slice_index_or, Result, Ok, Err}
 use Rattle.std.specs.Option.{is_none}
 use Rattle.rec_id.specs.Identity.{Identity, shard_of}
 use Rattle.rec_id.specs.declared.entry.Entry.{Entry}

@@ -1,6 +1,6 @@
-use Rattle.std.proofs.Common.{◌≡◌, ℕ, List, [], ◌∷◌, Some, None, refl, map}
+use Rattle.std.proofs.Common.{◌≡◌, [], ◌∷◌, Some, None, refl, map}
 use Rattle.rec_id.specs.declared.event.Ask.TheVariants.{Range, Tail}
-use Rattle.rec_id.specs.declared.event.Event.TheVariants.{Invoke, Acked, Begin, Answer, Seen, TrimAsk}
+use Rattle.rec_id.specs.declared.event.Event.TheVariants.{Begin, Seen}
 use Rattle.view_config.specs.declared.config.Config.{Config}
 use Rattle.view_config.specs.declared.edition.Edition.TheVariants.{One, Two}
 use Rattle.view_config.specs.declared.edition.Mode.TheVariants.{M}

@@ -3,7 +3,6 @@ use Rattle.rec_id.specs.declared.entry.Entry.{Entry}
 use Rattle.rec_id.specs.declared.entry.Entry.TheVariants.{Kept, Noop}
 use Rattle.rec_id.specs.declared.event.Ask.TheVariants.{Range, Tail}
 use Rattle.rec_id.specs.declared.event.Event.TheVariants.{Begin, Answer, TrimAsk, TrimDone, Trimmed}
-use Rattle.view_config.specs.declared.config.Config.{Config}
 use Rattle.view_config.specs.declared.edition.Edition.TheVariants.{One, Two}
 use Rattle.view_config.specs.declared.edition.Mode.TheVariants.{M}
 use Rattle.view_config.specs.Shape.{Dimensions}
