@@ -6,9 +6,11 @@ use Rattle.rec_id.specs.declared.event.Ask.TheVariants.{Range, Tail}
 use Rattle.rec_id.specs.declared.event.Event.TheVariants.{Invoke, Acked, Rejected, Begin, Answer, Seen}
 use Rattle.view_config.specs.declared.edition.Edition.TheVariants.{One}
 use Rattle.view_config.specs.declared.edition.Mode.TheVariants.{M, St}
-use Rattle.lazy_msgs.specs.declared.input.WorldEvent.TheVariants.{Post, Ask, Peek, Deliver, Tick, Grace, Crash}
+use Rattle.lazy_msgs.specs.declared.input.WorldEvent.TheVariants.{Post, Ask, Peek, Deliver, Tick, Grace, Crash, Suspect}
 use Rattle.lazy_msgs.specs.declared.refused.BeginRefused.TheVariants.{Outstanding, Backward as BackwardRead, Wide as WideRead}
-use Rattle.lazy_msgs.specs.declared.refused.EventRefused.TheVariants.{NoNode, NoMessage, IsClaim, NotClaim, Crashed, NotYet, Begin as BeginRefused}
+use Rattle.lazy_msgs.specs.declared.refused.EventRefused.TheVariants.{NoNode, NoMessage, IsClaim, NotClaim, Crashed, NotYet, Post as PostRefused, Begin as BeginRefused, Suspect as SuspectRefused}
+use Rattle.lazy_msgs.specs.declared.refused.PostRefused.TheVariants.{TooLong, WindowFull}
+use Rattle.lazy_msgs.specs.declared.refused.SuspectRefused.TheVariants.{NotInView, LastSeq, LastOfShard}
 use Rattle.rules_examples.proofs.Shows.{c#, shape_in, flow, traces, line_is}
 
 -- Whole traces in one view: what the clients are told, what is refused, and the lines of the holders. A
@@ -138,3 +140,28 @@ pub lines_of_a_repeated_place : traces (shape_in One M 2 0 1 2 1)
           ∷ [];
     }
 lines_of_a_repeated_place = refl
+
+-- a client whose numbers are unfinished for a whole window appends no more; nobody is replaced who is the last
+-- of its list, or in none
+pub full_window_and_refused_suspicions : traces (shape_in One M 1 0 1 1 1)
+    ((replicate 257 (Post 0 []) ++ Suspect 257 ∷ Suspect 264 ∷ Suspect 0 ∷ []) ∷ []) ≡ record {
+      history = map (λ n. Invoke (c# 0 n) []) (range_with_len 1 256);
+      messages = 256;
+      events = 256;
+      refused = PostRefused (WindowFull 1) ∷ SuspectRefused LastSeq ∷ SuspectRefused (LastOfShard 0) ∷ SuspectRefused NotInView ∷ [];
+      lines = (line_is 257 [] ∷ [])
+          ∷ [];
+    }
+full_window_and_refused_suspicions = refl
+
+-- a record has no more bytes than its edition allows
+pub too_long : traces (shape_in One M 1 0 1 1 1)
+    ((Post 0 (replicate 4097 97) ∷ []) ∷ []) ≡ record {
+      history = [];
+      messages = 0;
+      events = 0;
+      refused = PostRefused TooLong ∷ [];
+      lines = (line_is 257 [] ∷ [])
+          ∷ [];
+    }
+too_long = refl
