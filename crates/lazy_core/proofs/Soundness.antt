@@ -11,7 +11,8 @@ use Rattle.lazy_rules.specs.ClientState.{ClientState, first_client}
 use Rattle.lazy_rules.specs.SeqState.{SeqState, first_seq}
 use Rattle.lazy_rules.specs.WorldState.{WorldState, first_world, node_count}
 use Rattle.lazy_rules.specs.WorldRules.{IsWithinLimits, stepped, step_time, enveloped}
-use Rattle.lazy_core.specs.WorldView.{first_shards}
+use Rattle.lazy_core.specs.WorldView.{first_readers, first_shards}
+use Rattle.lazy_rules.specs.ControlState.{first_control}
 use Rattle.lazy_core.specs.Early.{IsSound, IsEarly, IsDue, IsInFirstView}
 
 -- a world at first is sound
@@ -93,7 +94,7 @@ sound_stepped w node received sends told h there past due within =
     }
 
 -- a world made of such parts is the first one
-pub made_first : (shape : Dimensions) (clients : List ClientState) (seqs : List SeqState) (times crashed : List ℕ) (sent : List Envelope) (history : List Event) (events : ℕ) → clients ≡ map (first_client shape) (range_with_len 0 shape.clients) → seqs ≡ map (first_seq shape) (range_with_len 0 (shape.seq + shape.spares)) → times ≡ replicate node_count 0 → crashed ≡ [] → sent ≡ [] → history ≡ [] → events ≡ 0 → record { shape = shape; clients = clients; seqs = seqs; shards = first_shards shape; times = times; crashed = crashed; sent = sent; history = history; events = events } ≡ first_world shape
+pub made_first : (shape : Dimensions) (clients : List ClientState) (seqs : List SeqState) (times crashed : List ℕ) (sent : List Envelope) (history : List Event) (events : ℕ) → clients ≡ map (first_client shape) (range_with_len 0 shape.clients) → seqs ≡ map (first_seq shape) (range_with_len 0 (shape.seq + shape.spares)) → times ≡ replicate node_count 0 → crashed ≡ [] → sent ≡ [] → history ≡ [] → events ≡ 0 → record { shape = shape; clients = clients; readers = first_readers shape; control = first_control shape; seqs = seqs; shards = first_shards shape; times = times; crashed = crashed; sent = sent; history = history; events = events } ≡ first_world shape
 made_first shape clients seqs times crashed sent history events a b c d e f g = cc
 
 -- and sound

@@ -1,6 +1,8 @@
 use Rattle.std.specs.Prelude.{◌*◌, List, map}
 use Rattle.std.specs.List.{range_with_len}
 use Rattle.view_config.specs.Shape.{Dimensions}
+use Rattle.lazy_rules.specs.ControlState.{first_control}
+use Rattle.lazy_rules.specs.ReaderState.{ReaderState, first_reader}
 use Rattle.lazy_rules.specs.ShardState.{ShardState}
 use Rattle.lazy_core.specs.declared.world.World.TheInside.{Inside}
 use Rattle.lazy_core.specs.Early.{IsSound}
@@ -10,11 +12,17 @@ use Rattle.lazy_rules.specs.WorldState.{WorldState, first_shard_at}
 abbrev pub first_shards : Dimensions → List ShardState
 first_shards shape = map (first_shard_at shape) (range_with_len 0 (shape.shards * shape.copies))
 
+-- the readers and the controller at first, to which nothing happens either
+abbrev pub first_readers : Dimensions → List ReaderState
+first_readers shape = map (first_reader shape) (range_with_len 0 shape.clients)
+
 -- what contracts see in a world
 abbrev pub world_of : Inside → WorldState
 world_of a = record {
   shape = a.shape;
   clients = a.clients.items;
+  readers = first_readers a.shape;
+  control = first_control a.shape;
   seqs = a.seqs.items;
   shards = first_shards a.shape;
   times = a.ledger.times;

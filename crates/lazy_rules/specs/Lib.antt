@@ -14,6 +14,12 @@ pub mod ShardRules
 pub mod SeqRules
 pub mod ClientState
 pub mod ClientRules
+pub mod ReaderState
+pub mod ReaderRules
+pub mod ControlState
+pub mod ControlRules
 pub mod ClientNode
 pub mod WorldState
 pub mod WorldRules
+pub mod Holders
+pub mod Lines

@@ -6,11 +6,13 @@ use Rattle.view_config.specs.declared.config.Config.{Config}
 use Rattle.view_config.specs.declared.edition.Mode.TheVariants.{M, St}
 use Rattle.lazy_msgs.specs.declared.input.WorldEvent.TheVariants.{Post, Deliver, Tick, Grace, Crash, Peek, Trim, Suspect}
 use Rattle.lazy_msgs.specs.declared.msg.Msg.TheVariants.{Append, AppendAck, Put, DataAck, ViewIs, AskView, Order, Ordered, Place, Placed, Probe, ProbeAck, Stable, TailReady}
-use Rattle.lazy_msgs.specs.declared.refused.EventRefused.TheVariants.{NoNode, NoMessage, IsClaim, NotClaim, Crashed, NoTrim, Backward, Wide, NotYet}
+use Rattle.lazy_msgs.specs.declared.refused.EventRefused.TheVariants.{NoNode, NoMessage, IsClaim, NotClaim, Crashed, NoTrim, Backward, Wide, NotYet, Suspect as SuspectRefusedSo}
+use Rattle.lazy_msgs.specs.declared.refused.SuspectRefused.TheVariants.{NotInView}
 use Rattle.lazy_rules.specs.ClientRules.{client_took, invokes}
-use Rattle.lazy_rules.specs.ClientNode.{on_node_tick}
+use Rattle.lazy_rules.specs.ClientNode.{ClientNode, on_node_tick}
 use Rattle.lazy_rules.specs.ClientState.{ClientState, first_client}
 use Rattle.lazy_rules.specs.Flight.{Batch}
+use Rattle.lazy_rules.specs.ReaderState.{first_reader}
 use Rattle.lazy_rules.specs.SeqRules.{seq_took, on_tick}
 use Rattle.lazy_rules.specs.SeqState.{SeqState, first_seq}
 use Rattle.lazy_rules.specs.WorldRules.{refusal}
@@ -44,8 +46,12 @@ pub acknowledged_in_a_later_view : told_of client_took posted
     ∷ []) ≡ [] ∷ [] ∷ [] ∷ [] ∷ [] ∷ [] ∷ [] ∷ (Acked (c# 0 1) ∷ []) ∷ [] ∷ []
 acknowledged_in_a_later_view = refl
 
+-- a client's node whose reader is at nothing
+abbrev pub node_of_appends : ClientState → ClientNode
+node_of_appends c = record { appends = c; reads = first_reader c.shape c.client }
+
 -- only what isn't acknowledged is sent again, and then the latest view is asked for
-pub sent_on_a_tick : (on_node_tick (after_all client_took posted ((258, AppendAck 1 (c# 0 1)) ∷ []))).sends ≡ (264, Put (c# 0 1) (97 ∷ [])) ∷ (257, Append 1 (c# 0 1) None) ∷ (256, AskView) ∷ []
+pub sent_on_a_tick : (on_node_tick (node_of_appends (after_all client_took posted ((258, AppendAck 1 (c# 0 1)) ∷ [])))).sends ≡ (264, Put (c# 0 1) (97 ∷ [])) ∷ (257, Append 1 (c# 0 1) None) ∷ (256, AskView) ∷ []
 sent_on_a_tick = refl
 
 -- where a batch begins
@@ -172,7 +178,7 @@ pub refused : map (refusal bound)
     ∷ Some (Crashed 259)
     ∷ None
     ∷ Some (NoNode 268)
-    ∷ None
+    ∷ Some (SuspectRefusedSo NotInView)
     ∷ Some NoTrim
     ∷ []
 refused = refl

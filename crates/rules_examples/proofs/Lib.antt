@@ -4,3 +4,10 @@ pub mod Bindings
 pub mod Views
 pub mod Data
 pub mod Clients
+pub mod ClientNodeRows
+pub mod ReaderRows
+pub mod ControlRows
+pub mod ReadTraces
+pub mod ChangeTraces
+pub mod TrimTraces
+pub mod HolderTraces

@@ -1,22 +1,30 @@
-use Rattle.std.proofs.Common.{ℕ, List, [], ◌∷◌, length, map, drop, Some}
+use Rattle.std.proofs.Common.{ℕ, List, [], ◌∷◌, ◌++◌, length, map, drop, Some, Result, Ok, Err}
 use Rattle.std.specs.List.{range_with_len}
+use Rattle.std.specs.Option.{option_to_list}
 use Rattle.rec_id.specs.Identity.{Identity}
+use Rattle.rec_id.specs.declared.entry.Entry.{Entry}
 use Rattle.rec_id.specs.declared.event.Event.{Event}
 use Rattle.rec_id.specs.declared.item.Cell.{Cell}
 use Rattle.rec_id.specs.declared.item.Body.{Body}
 use Rattle.rec_id.specs.declared.item.Item.{Item}
+use Rattle.view_config.specs.declared.edition.Edition.{Edition}
 use Rattle.view_config.specs.declared.edition.Edition.TheVariants.{One}
 use Rattle.view_config.specs.declared.edition.Mode.{Mode}
 use Rattle.view_config.specs.Shape.{Dimensions}
+use Rattle.lazy_msgs.specs.declared.input.Input.{Input}
+use Rattle.lazy_msgs.specs.declared.input.Input.TheVariants.{Take}
 use Rattle.lazy_msgs.specs.declared.input.WorldEvent.{WorldEvent}
 use Rattle.lazy_msgs.specs.declared.input.WorldEvent.TheVariants.{Deliver}
 use Rattle.lazy_msgs.specs.declared.msg.Envelope.{Envelope}
 use Rattle.lazy_msgs.specs.declared.msg.Msg.{Msg}
+use Rattle.lazy_msgs.specs.declared.refused.EventRefused.{EventRefused}
 use Rattle.lazy_msgs.specs.Step.{Row}
+use Rattle.lazy_rules.specs.Holders.{holders}
+use Rattle.lazy_rules.specs.Lines.{line_told}
 use Rattle.lazy_rules.specs.SeqState.{SeqState}
 use Rattle.lazy_rules.specs.ShardState.{ShardState}
 use Rattle.lazy_rules.specs.WorldState.{WorldState, first_world}
-use Rattle.lazy_rules.specs.WorldRules.{run}
+use Rattle.lazy_rules.specs.WorldRules.{run, refusal, happened}
 
 -- What the examples show of a world.
 
@@ -24,17 +32,22 @@ use Rattle.lazy_rules.specs.WorldRules.{run}
 abbrev pub c# : ℕ → ℕ → Identity
 c# c n = record { client = c; number = n }
 
--- a shape of edition One
-abbrev pub shape_of : Mode → ℕ → ℕ → ℕ → ℕ → Dimensions
-shape_of mode seq shards copies clients = record {
-  edition = One;
+-- a shape: its edition and mode, and how many sequencing replicas, spares, shards, replicas of each and
+-- clients it has
+abbrev pub shape_in : Edition → Mode → ℕ → ℕ → ℕ → ℕ → ℕ → Dimensions
+shape_in edition mode seq spares shards copies clients = record {
+  edition = edition;
   mode = mode;
   seq = seq;
-  spares = 0;
+  spares = spares;
   shards = shards;
   copies = copies;
   clients = clients;
 }
+
+-- a shape of edition One without spares
+abbrev pub shape_of : Mode → ℕ → ℕ → ℕ → ℕ → Dimensions
+shape_of mode seq shards copies clients = shape_in One mode seq 0 shards copies clients
 
 -- a cell
 abbrev pub cell : ℕ → ℕ → Body → Cell
@@ -133,3 +146,64 @@ sends_of took s msgs = (replies took s msgs).sends
 abbrev pub told_of : {S : Type 0} → (S → ℕ → Msg → Row S) → S → List (ℕ × Msg) → List (List Event)
 told_of took s [] = []
 told_of took s (one ∷ others) = (took s one.0 one.1).events ∷ told_of took (took s one.0 one.1).next others
+
+-- a message from a node, as an input
+abbrev pub from_node : ℕ → Msg → Input
+from_node node msg = Take (record { from = node; to = 0; time = 0; msg = msg })
+
+-- what a node sends and tells in each of several steps, and what it is then
+pub record Stepped (S : Type 0) : Type 0 where
+  pub last : S
+  pub sends : List (List (ℕ × Msg))
+  pub events : List (List Event)
+
+abbrev pub added : {S : Type 0} → List (ℕ × Msg) → List Event → Stepped S → Stepped S
+added sends events rest = record { last = rest.last; sends = sends ∷ rest.sends; events = events ∷ rest.events }
+
+abbrev pub steps : {S : Type 0} → (S → Input → Row S) → S → List Input → Stepped S
+steps step s [] = record { last = s; sends = []; events = [] }
+steps step s (input ∷ inputs) = added (step s input).sends (step s input).events (steps step (step s input).next inputs)
+
+-- the line of a holder, or the shard at which it is lost
+pub record HolderLine : Type 0 where
+  pub holder : ℕ
+  pub line : Result (List Entry) ℕ
+
+abbrev pub line_is : ℕ → List Entry → HolderLine
+line_is holder line = record { holder = holder; line = Ok line }
+
+abbrev pub line_lost : ℕ → ℕ → HolderLine
+line_lost holder shard = record { holder = holder; line = Err shard }
+
+-- the lines of all holders
+abbrev pub lines_of : WorldState → List HolderLine
+lines_of w = map (λ holder. record { holder = holder; line = line_told w holder }) (holders w)
+
+-- why events of a run were refused, in the order of those that were
+abbrev pub refusals : WorldState → List WorldEvent → List EventRefused
+refusals w [] = []
+refusals w (event ∷ events) = option_to_list (refusal w event) ++ refusals (happened w event) events
+
+-- a trace: what the clients did and were told, how many messages were sent and events accepted, what was
+-- refused, and the lines of the holders after each of its parts
+pub record Traced : Type 0 where
+  pub history : List Event
+  pub messages : ℕ
+  pub events : ℕ
+  pub refused : List EventRefused
+  pub lines : List (List HolderLine)
+
+abbrev pub traced : WorldState → List EventRefused → List (List HolderLine) → List (List WorldEvent) → Traced
+traced w refused lines [] = record {
+  history = w.history;
+  messages = length w.sent;
+  events = w.events;
+  refused = refused;
+  lines = lines;
+}
+traced w refused lines (part ∷ parts) =
+    let next = run part w in
+    traced next (refused ++ refusals w part) (lines ++ lines_of next ∷ []) parts
+
+abbrev pub traces : Dimensions → List (List WorldEvent) → Traced
+traces shape parts = traced (first_world shape) [] [] parts
