@@ -53,7 +53,7 @@ all_at p a (suc n) k all from below =
     ]
 
 -- answers of distinct nodes below a count are no more than that
-few : (count : ℕ) (given : List ℕ) → IsDistinct eqb given → ((node : ℕ) → has_node given node ≡ true → node < count) → length given ≤ count
+pub few : (count : ℕ) (given : List ℕ) → IsDistinct eqb given → ((node : ℕ) → has_node given node ≡ true → node < count) → length given ≤ count
 few count given once below =
     let range = range_with_len 0 count in
     let fewer = length-le_from_is_member nat_eq_equiv given range once (λ q is.

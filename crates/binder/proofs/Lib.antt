@@ -1,3 +1,4 @@
 pub mod Answering
 pub mod Waits
 pub mod Flights
+pub mod Chains

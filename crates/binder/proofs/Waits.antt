@@ -8,7 +8,7 @@ use Rattle.std.proofs.lemmas.Map.Keys.{IsDistinct-head, IsDistinct-tail, IsDisti
 use Rattle.lazy_rules.specs.Flight.{Probe, has_probe_of, is_ready, ready, after_ready}
 use Rattle.lazy_rules.specs.Rows.{has_node}
 use Rattle.binder.specs.Held.{IsRoster, clients}
-use Rattle.binder.proofs.Answering.{with_answer, room_for}
+use Rattle.binder.proofs.Answering.{few, with_answer, room_for}
 
 -- ---- whose they are
 pub client_is : (probes : List Probe) (client : ℕ) → has_node (clients probes) client ≡ has_probe_of probes client
@@ -20,6 +20,10 @@ clients_stay probe [] = refl
 clients_stay probe (x ∷ xs) =
     ap (λ (l : List ℕ). (cond (eqb x.client probe.client) probe x).client ∷ l) (clients_stay probe xs)
     ∙ ap (λ (c : ℕ). c ∷ clients xs) (cond_both (eqb x.client probe.client) probe x (λ p. p.client ≡ x.client) (λ same. sym (eqb-true x.client probe.client same)) (λ _. refl))
+
+pub few_reads : (probes : List Probe) (room : ℕ) → IsRoster 256 (clients probes) room → length probes ≤ 256
+few_reads probes room roster =
+    omega (arith, few 256 (clients probes) roster.once roster.below, length-map probes (λ (p : Probe). p.client))
 
 pub roster_stays : (probe : Probe) (probes new : List Probe) (room : ℕ) → new ≡ map (λ other. cond (eqb other.client probe.client) probe other) probes
     → IsRoster 256 (clients probes) room → IsRoster 256 (clients new) room

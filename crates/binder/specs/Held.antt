@@ -2,6 +2,7 @@ use Rattle.std.specs.Prelude.{ℕ, ◌≡◌, ◌<◌, ◌≤◌, true, eqb, Lis
 use Rattle.std.specs.List.{IsDistinct}
 use Rattle.lazy_rules.specs.Flight.{Batch, Probe, flight_limit}
 use Rattle.lazy_rules.specs.Rows.{has_node}
+use Rattle.binder.specs.Sound.{IsFlight}
 
 -- the answers of nodes that are numbered below a count
 pub record Answering : Type 0 where
@@ -48,3 +49,4 @@ pub record IsKept (shards followers : ℕ) (flight spare : List Held) (flight_ro
   pub four : length flight + length spare ≡ flight_limit
   pub fits : flight_limit ≤ flight_room
   pub spare_fits : flight_limit ≤ spare_room
+  pub sound : IsFlight (batches flight)

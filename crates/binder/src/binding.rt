@@ -3,6 +3,7 @@
 ghost use Rattle.std.specs.Prelude.{◌≡◌, ℕ, ◌+◌, ◌^◌, ◌<◌, ◌≤◌, length, nat_lt, not, option_map, slice_get, Some, IfOk, is_some};
 ghost use Rattle.lazy_rules.specs.Flight.{Probe, flight_limit, batch_limit, flight_end, with_batch, lacks_place, lacks_order, finish, after_finish, has_later_probe, greatest, ready, after_ready};
 ghost use Rattle.binder.specs.Held.{AllFor};
+ghost use Rattle.binder.specs.Sound.{IsFlight};
 ghost use Rattle.binder.specs.Binding.{first_binding, outline, probe_of, placed_flight, placed_progress, ordered_flight, ordered_progress, probes_with};
 
 use crate::batch::{Batch, Progress};
@@ -68,10 +69,11 @@ impl Binder {
         })
     }
 
-    /// How many batches are on their way.
+    /// How many batches are on their way. Each begins where the one before it ends, and those that are
+    /// ordered come first.
     pub fn flight(&self) -> u32
         ensures count { result ≡ length self.now.flight }
-        ensures few { result ≤ flight_limit }
+        ensures sound { IsFlight self.now.flight }
     {
         self.flight.len() as u32
     }
@@ -184,7 +186,8 @@ impl Binder {
 
     /// Whether a read waits.
     pub fn waiting(&self) -> bool
-        ensures { result ≡ nat_lt 0 (length self.now.probes) }
+        ensures some { result ≡ nat_lt 0 (length self.now.probes) }
+        ensures few { length self.now.probes ≤ 256 }
     {
         !self.reads.is_empty()
     }
@@ -194,5 +197,119 @@ impl Binder {
         ensures { result ≡ greatest self.now.probes }
     {
         self.reads.greatest()
+    }
+}
+
+#[cfg(test)]
+mod tests {
+    use super::*;
+    use std::test::Fail;
+
+    /// The batches [0, 2) and [2, 5), which two shards and two followers answer for.
+    fn two_batches(alloc: Global) -> Result<Binder, AllocError>
+        ensures { IfOk result (λ made. (made.shards ≡ 2) × (made.followers ≡ 2)) }
+    {
+        let mut binder = Binder::new(alloc, 2, 2)?;
+        binder.begin(0, 2);
+        binder.begin(2, 3);
+        Ok(binder)
+    }
+
+    /// What the answer of this shard or follower leads to.
+    fn answer(binder: &mut Binder, placing: bool, node: u32, upto: u32) -> Progress
+        requires { (binder.old.shards ≡ 2) × (binder.old.followers ≡ 2) }
+        ensures { (binder.new.shards ≡ 2) × (binder.new.followers ≡ 2) }
+    {
+        let node = node.min(1);
+        if placing {
+            return binder.placed(node, upto);
+        }
+        binder.ordered(node, upto)
+    }
+
+    /// After each answer, placed or ordered, by which shard or follower and up to where: what it leads
+    /// to, and where the batch begins that is finished then. The second batch's answers come before
+    /// the first one's, and some come twice.
+    #[test]
+    fn answers_crosswise(rt: HostRuntime) -> Result<(), Fail> {
+        let rows = [
+            (true, 1, 5, Progress::Waiting, None),
+            (true, 0, 5, Progress::Waiting, None),
+            (true, 0, 2, Progress::Waiting, None),
+            (true, 0, 2, Progress::Waiting, None),
+            (true, 1, 3, Progress::Ignored, None),
+            (false, 0, 2, Progress::Ignored, None),
+            (true, 1, 2, Progress::Passed(2), None),
+            (true, 1, 2, Progress::Ignored, None),
+            (false, 0, 5, Progress::Waiting, None),
+            (false, 1, 5, Progress::Waiting, None),
+            (false, 0, 2, Progress::Waiting, None),
+            (false, 0, 2, Progress::Waiting, None),
+            (false, 1, 2, Progress::Waiting, Some(0)),
+            (false, 1, 2, Progress::Ignored, Some(2)),
+            (false, 0, 5, Progress::Ignored, None),
+        ];
+        let mut binder = two_batches(rt.alloc())?;
+        for (placing, node, upto, progress, finished) in rows {
+            assert_eq!(rt; answer(&mut binder, placing, node, upto), progress);
+            let from = match binder.finish() {
+                Some(batch) => Some(batch.from),
+                None => None,
+            };
+            assert_eq!(rt; from, finished);
+        }
+        Ok(())
+    }
+
+    #[test]
+    fn four_batches(rt: HostRuntime) -> Result<(), Fail> {
+        let mut binder = Binder::new(rt.alloc(), 1, 0)?;
+        binder.begin(7, 64);
+        binder.begin(71, 1);
+        binder.begin(72, 2);
+        binder.begin(74, 3);
+        assert_eq!(rt; binder.flight(), 4);
+        let last = Batch {
+            from: 74,
+            count: 3,
+            ordering: false,
+        };
+        assert_eq!(rt; binder.batch(3), last);
+        assert!(rt; binder.lacks_place(3, 0));
+        Ok(())
+    }
+
+    /// Reads by client, number and target, and whether each is kept.
+    #[test]
+    fn reads_wait(rt: HostRuntime) -> Result<(), Fail> {
+        let rows = [
+            (7u8, 1, 10, true),
+            (3, 1, 4, true),
+            (7, 2, 6, true),
+            (7, 1, 12, false),
+            (3, 1, 9, false),
+            (255, 5, 20, true),
+        ];
+        let mut binder = Binder::new(rt.alloc(), 1, 1)?;
+        for (client, read, target, kept) in rows {
+            assert_eq!(rt; binder.probe(u32::from(client), read, target), kept);
+        }
+        assert_eq!(rt; binder.greatest(), Some(20));
+        let ready = [
+            (6, Some((7, 2, 6))),
+            (6, Some((3, 1, 4))),
+            (6, None),
+            (20, Some((255, 5, 20))),
+            (20, None),
+        ];
+        for (bound, told) in ready {
+            let probe = match binder.ready(bound) {
+                Some(probe) => Some((probe.client, probe.read, probe.target)),
+                None => None,
+            };
+            assert_eq!(rt; probe, told);
+        }
+        assert!(rt; !binder.waiting());
+        Ok(())
     }
 }

@@ -55,7 +55,8 @@ impl Reads {
     }
 
     pub(crate) fn is_empty(&self) -> bool
-        ensures { result ≡ not (nat_lt 0 (length self.now)) }
+        ensures none { result ≡ not (nat_lt 0 (length self.now)) }
+        ensures few { length self.now ≤ 256 }
     {
         self.waiting.is_empty()
     }
