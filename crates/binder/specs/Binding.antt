@@ -1,0 +1,51 @@
+use Rattle.std.specs.Prelude.{ℕ, List, [], length, ◌==◌, if◌then◌else◌}
+use Rattle.lazy_rules.specs.Flight.{Batch, Probe, has_placing, has_ordering, with_place, with_order, passed, passing, has_later_probe, with_probe}
+use Rattle.binder.specs.declared.batch.Batch.{Batch as Outline}
+use Rattle.binder.specs.declared.batch.Progress.{Progress}
+use Rattle.binder.specs.declared.batch.Progress.TheVariants.{Ignored, Waiting, Passed}
+use Rattle.binder.specs.declared.probe.Probe.{Probe as Told}
+
+-- what a leader has on its way: the batches, each of which so many shards and followers answer for,
+-- and the reads that wait
+pub record Binding : Type 0 where
+  pub shards : ℕ
+  pub followers : ℕ
+  pub flight : List Batch
+  pub probes : List Probe
+
+-- nothing is on its way
+abbrev pub first_binding : ℕ → ℕ → Binding
+first_binding shards followers = record { shards = shards; followers = followers; flight = []; probes = [] }
+
+-- a batch, and a waiting read, as callers and as the rules see it
+abbrev pub outline : Batch → Outline
+outline batch = record { from = batch.from; count = batch.count; ordering = batch.ordering }
+
+abbrev pub probe_of : Told → Probe
+probe_of probe = record { client = probe.client; read = probe.read; target = probe.target }
+
+-- the answer of a shard where a batch ends here that is being placed: it is noted, and then the
+-- batches pass that can
+abbrev pub placed_flight : ℕ → List Batch → ℕ → ℕ → List Batch
+placed_flight shards flight shard upto =
+    if has_placing flight upto then passed shards (with_place flight shard upto) else flight
+
+-- what it led to: so many batches passed, or none
+abbrev pub progress_of : ℕ → Progress
+progress_of count = if count == 0 then Waiting else Passed count
+
+abbrev pub placed_progress : ℕ → List Batch → ℕ → ℕ → Progress
+placed_progress shards flight shard upto =
+    if has_placing flight upto then progress_of (length (passing shards (with_place flight shard upto))) else Ignored
+
+-- the answer of a follower where a batch ends here that is ordered: it is noted
+abbrev pub ordered_flight : List Batch → ℕ → ℕ → List Batch
+ordered_flight flight follower upto = if has_ordering flight upto then with_order flight follower upto else flight
+
+abbrev pub ordered_progress : List Batch → ℕ → Progress
+ordered_progress flight upto = if has_ordering flight upto then Waiting else Ignored
+
+-- a read waits, where no read of its client as late does
+abbrev pub probes_with : List Probe → Probe → List Probe
+probes_with probes probe =
+    if has_later_probe probes probe.client probe.read then probes else with_probe probes probe
