@@ -7,11 +7,13 @@ mod laws;
 mod lengths;
 mod limits;
 mod offence;
+mod reading;
 mod writing;
 
 pub use laws::{marks_by_bit, one_form};
 pub use limits::fits;
 pub use offence::FrameError;
+pub use reading::{decode, read_again};
 pub use writing::encode;
 
 #[cfg(test)]
