@@ -1,9 +1,9 @@
 -- What is read stands in the bytes: the form of a value within its limits, and what is left behind it.
-use Rattle.std.proofs.Common.{◌≡◌, ℕ, zero, suc, ◌+◌, ◌-◌, ◌*◌, ◌^◌, ◌<◌, ◌≤◌, Bool, true, false, ltb, List, [], ◌∷◌, ◌++◌, length, get_or, take, drop, Ok, Err, refl, sym, ap, subst, ◌∙◌, append_assoc, arith, inl, inr, lit≤}
+use Rattle.std.proofs.Common.{◌≡◌, ℕ, suc, ◌+◌, ◌-◌, ◌^◌, ◌<◌, ◌≤◌, Bool, true, false, ltb, List, [], ◌∷◌, ◌++◌, length, get_or, take, drop, Ok, Err, refl, sym, ap, subst, ◌∙◌, append_assoc, arith, inl, inr}
 use Rattle.std.specs.Prelude.{nat_le, nat_lt, if◌then◌else◌}
 use Rattle.std.specs.Int.{Width, w16, w32, w64, byte_len, from_be_bytes, to_be_bytes}
 use Rattle.std.proofs.lemmas.Bool.{cases_lt, ltb-false, ltb-true, leb-true}
-use Rattle.std.proofs.lemmas.List.{take_at, drop_at, take-append-drop, length-append, length-take, get_or-drop, get_or-take, get_or_past}
+use Rattle.std.proofs.lemmas.List.{take-append-drop, length-take, get_or-drop, get_or-take, get_or_past}
 use Rattle.std.proofs.lemmas.Nat.{be_bytes_2, be_bytes_4, be_bytes_8}
 use Rattle.lazy_msgs.specs.Frame.{two, four, eight}
 use Rattle.lazy_msgs.specs.FrameLimits.{IsWord, IsCounted, IsNode}
@@ -47,10 +47,10 @@ pub bind_ok : {A B : Type 0} (read : Taken A) (next : A → Reader B) (y : B × 
 bind_ok (Ok x) next y is = (x, refl, is)
 bind_ok (Err offence) next y is = absurd cc
 
-abbrev taken : {A : Type 0} → A × List ℕ → Taken A
+abbrev pub taken : {A : Type 0} → A × List ℕ → Taken A
 taken x = Ok x
 
-taken_is : {A : Type 0} (x y : A × List ℕ) → taken x ≡ taken y → x ≡ y
+pub taken_is : {A : Type 0} (x y : A × List ℕ) → taken x ≡ taken y → x ≡ y
 taken_is x y same = cc
 
 pub found_is : {A : Type 0} {form : A → List ℕ} {Fits : A → Type 0} {bytes : List ℕ} {a : A} {after : List ℕ} (value : A) (rest : List ℕ) → done a after ≡ Ok (value, rest) → Found form Fits bytes a after → Found form Fits bytes value rest
@@ -122,7 +122,7 @@ guarded : {A : Type 0} (b : Bool) (offence : FrameError) (x y : A × List ℕ) �
 guarded true offence x y is = (refl, taken_is x y is)
 guarded false offence x y is = absurd cc
 
-judged_ok : {A : Type 0} (test : A → Bool) (offence : FrameError) (read : Taken A) (y : A × List ℕ) → judged test offence read ≡ Ok y → (read ≡ Ok y) × (test y.0 ≡ true)
+pub judged_ok : {A : Type 0} (test : A → Bool) (offence : FrameError) (read : Taken A) (y : A × List ℕ) → judged test offence read ≡ Ok y → (read ≡ Ok y) × (test y.0 ≡ true)
 judged_ok {A = A} test offence (Ok x) y is =
     let passed = guarded (test x.0) offence x y is in
     (ap (λ (z : A × List ℕ). taken z) passed.1, subst (λ (z : A × List ℕ). test z.0 ≡ true) passed.1 passed.0)

@@ -1,28 +1,23 @@
 -- The fields of several parts and the lists, found in the bytes that they are read from.
-use Rattle.std.proofs.Common.{◌≡◌, ℕ, zero, suc, ◌-◌, ◌*◌, ◌%◌, ◌^◌, ◌<◌, ◌≤◌, Bool, true, false, List, [], ◌∷◌, ◌++◌, length, take, drop, slice_index, min, Option, Some, None, Ok, Err, refl, sym, ap, subst, ◌∙◌, append_assoc, arith, inl, inr}
+use Rattle.std.proofs.Common.{◌≡◌, ℕ, zero, suc, ◌*◌, ◌%◌, ◌≤◌, Bool, true, false, List, [], ◌∷◌, ◌++◌, length, take, drop, slice_index, Some, None, refl, sym, ap, subst, append_assoc, arith, inl, inr}
 use Rattle.std.specs.Prelude.{nat_le, ◌==◌, ◌||◌, ◌⊎◌, if◌then◌else◌}
 use Rattle.std.specs.List.{AllByRecursion, flat_map}
-use Rattle.std.specs.Int.{w16, w32, w64, from_le_bytes, to_le_bytes}
+use Rattle.std.specs.Int.{w64, from_le_bytes}
 use Rattle.std.proofs.lemmas.Bool.{leb-true, eqb-true}
 use Rattle.std.proofs.lemmas.List.{take_at, take-append-drop, length-take, length-drop, nil_from_length}
 use Rattle.std.proofs.lemmas.Nat.{le_bytes_8}
 use Rattle.rec_id.specs.Identity.{Identity, IsIdentity}
 use Rattle.rec_id.specs.declared.entry.Entry.{Entry}
 use Rattle.rec_id.specs.declared.entry.Entry.TheVariants.{Kept as KeptEntry, Noop as NoopEntry}
-use Rattle.rec_id.specs.declared.item.Item.{Item}
-use Rattle.rec_id.specs.declared.item.Body.{Body}
 use Rattle.rec_id.specs.declared.item.Body.TheVariants.{Elsewhere, Kept, Noop}
-use Rattle.rec_id.specs.declared.item.Cell.{Cell}
-use Rattle.rec_id.specs.declared.marks.Marks.{Marks}
 use Rattle.view_config.specs.declared.edition.Edition.{Edition}
 use Rattle.view_config.specs.declared.edition.Edition.TheVariants.{One, Two}
-use Rattle.view_config.specs.declared.config.Config.{Config}
 use Rattle.view_config.specs.Limits.{record_limit}
-use Rattle.lazy_msgs.specs.Frame.{two, four, word_form, size_form, bytes_form, optional_form, list_form, id_form, item_form, body_form, cell_form, entry_form, placed_form, nodes_form, config_form, marks_form}
-use Rattle.lazy_msgs.specs.FrameLimits.{BytesFit, OptionalFits, ListFits, ItemFits, BodyFits, CellFits, EntryFits, PlacedFits, IsNode, NodesFit, ConfigFits, EndAt, MarksFit, WindowFits, words_of}
-use Rattle.wire_frames.specs.Reading.{Reader, ◌>>=◌, done, byte_at, part_at, number_at, allowed, limited, node_at, id_at, size_at, bytes_at, optional_at, item_at, body_at, cell_at, entry_at, placed_at, members_at, list_at, nodes_at, shards_at, config_at, words_in, end_at, are_bits, words_at, marks_at, window_at}
+use Rattle.lazy_msgs.specs.Frame.{two, word_form, size_form, bytes_form, optional_form, list_form, id_form, item_form, body_form, cell_form, entry_form, placed_form, nodes_form, config_form, marks_form}
+use Rattle.lazy_msgs.specs.FrameLimits.{BytesFit, OptionalFits, ListFits, ItemFits, BodyFits, CellFits, EntryFits, PlacedFits, NodesFit, ConfigFits, MarksFit, WindowFits, words_of}
+use Rattle.wire_frames.specs.Reading.{Reader, ◌>>=◌, done, byte_at, part_at, allowed, limited, node_at, id_at, size_at, bytes_at, optional_at, item_at, body_at, cell_at, entry_at, placed_at, members_at, list_at, nodes_at, shards_at, config_at, words_in, end_at, are_bits, words_at, marks_at, window_at}
 use Rattle.wire_frames.proofs.Bits.{both_true, end_at_ends}
-use Rattle.wire_frames.proofs.Found.{IsBytes, IsBytes-take, IsBytes-drop, Front, Found, found_is, Takes, bind_ok, takes_weaker, Behind, behind_none, behind_done, behind_same, behind_one, behind_then, takes_two, takes_three, takes_allowed, takes_limited, takes_byte, takes_part, takes_two_bytes, takes_word, takes_counted, takes_node}
+use Rattle.wire_frames.proofs.Found.{IsBytes, IsBytes-take, IsBytes-drop, Front, found_is, Takes, bind_ok, takes_weaker, Behind, behind_none, behind_done, behind_same, behind_one, behind_then, takes_two, takes_three, takes_allowed, takes_limited, takes_byte, takes_part, takes_two_bytes, takes_word, takes_counted, takes_node}
 
 pub takes_id : (size : ℕ) → Takes (id_at size) id_form IsIdentity
 unfolding id_at

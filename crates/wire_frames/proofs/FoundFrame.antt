@@ -1,6 +1,6 @@
 -- A whole frame, found in the bytes that it is read from: what is decoded is spelled so, and what is spelled
 -- so is decoded.
-use Rattle.std.proofs.Common.{◌≡◌, ◌≢◌, ℕ, zero, suc, ◌+◌, ◌-◌, ◌^◌, ◌<◌, ◌≤◌, Bool, true, false, List, [], ◌∷◌, ◌++◌, length, Result, Ok, Err, refl, sym, ap, subst, ◌∙◌, arith, inl, inr, lit≤}
+use Rattle.std.proofs.Common.{◌≡◌, ◌≢◌, ℕ, zero, suc, ◌+◌, ◌<◌, ◌≤◌, Bool, true, false, List, [], ◌∷◌, ◌++◌, length, Result, Ok, Err, refl, sym, ap, subst, ◌∙◌, arith, inl, inr, lit≤}
 use Rattle.std.specs.Prelude.{nat_le, ◌&&◌, ◌==◌, ◌⊎◌, if◌then◌else◌, IfOk, IfErr}
 use Rattle.std.proofs.lemmas.Bool.{cases_eq, leb-true, eqb-true}
 use Rattle.std.proofs.lemmas.List.{append-nil}
@@ -13,10 +13,10 @@ use Rattle.lazy_msgs.specs.Frame.{two, eight, version_of, kind_of, fields_form, 
 use Rattle.lazy_msgs.specs.FrameLimits.{IsTwo, MessageFits, Fits}
 use Rattle.wire_frames.specs.declared.offence.FrameError.{FrameError}
 use Rattle.wire_frames.specs.declared.offence.FrameError.TheVariants.{Kind, Field, Memory}
-use Rattle.wire_frames.specs.Reading.{Taken, Reader, ◌>>=◌, done, node_at, addressee_at, time_at, fields_at, edition_at, kind_at, last_kind, envelope_at, frame_at, ended, whole_at, four_fields}
+use Rattle.wire_frames.specs.Reading.{Taken, ◌>>=◌, done, node_at, addressee_at, time_at, fields_at, edition_at, kind_at, last_kind, envelope_at, frame_at, ended, whole_at, four_fields}
 use Rattle.wire_frames.proofs.AgainFrame.{reads_frame, frame_alone}
 use Rattle.wire_frames.proofs.Bits.{both_true}
-use Rattle.wire_frames.proofs.Found.{IsBytes, Front, Found, found_is, Takes, takes_one, takes_two, takes_three, takes_four, takes_word, takes_counted, takes_node, takes_addressee, takes_time, Behind, behind_none, behind_done, behind_one, behind_same, behind_then}
+use Rattle.wire_frames.proofs.Found.{IsBytes, Found, Takes, takes_one, takes_two, takes_three, takes_four, takes_word, takes_counted, takes_node, takes_addressee, takes_time, behind_none, behind_done, behind_one, behind_same, behind_then}
 use Rattle.wire_frames.proofs.FoundFields.{takes_id, takes_bytes, takes_optional, takes_item, takes_cell, takes_placed, takes_list, takes_config, takes_window}
 
 -- a message of this kind that fits

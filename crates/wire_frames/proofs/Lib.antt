@@ -8,3 +8,4 @@ pub mod Bits
 pub mod Found
 pub mod FoundFields
 pub mod FoundFrame
+pub mod Fronts

@@ -10,7 +10,7 @@ mod offence;
 mod reading;
 mod writing;
 
-pub use laws::{marks_by_bit, one_form};
+pub use laws::{cut_or_more, marks_by_bit, one_form};
 pub use limits::fits;
 pub use offence::FrameError;
 pub use reading::{decode, read_again};
