@@ -1,5 +1,8 @@
--- Reading a frame from left to right, with the first offence that is met. `size` is the length of all
--- the bytes, so a field stands at the offset `size` less the bytes that are left.
+-- Reading a frame from left to right, with the first offence that is met. A field that needs more bytes
+-- than are left is Short; a count or a length over its limit is Over with the limit; any other value that
+-- isn't allowed is Field with the field's offset, or for the kind Kind with its byte; and what stands
+-- behind the last field is Trailing. `size` is the length of all the bytes, so a field stands at the
+-- offset `size` less the bytes that are left.
 use Rattle.std.specs.Prelude.{◌≡◌, ◌≢◌, ℕ, zero, suc, ◌-◌, ◌*◌, ◌%◌, ◌^◌, min, Bool, true, ◌&&◌, ◌||◌, ◌==◌, nat_lt, nat_le, if◌then◌else◌, List, [], ◌∷◌, length, take, drop, slice_index, Option, Some, None, Result, Ok, Err}
 use Rattle.std.specs.Int.{Width, w16, w32, w64, byte_len, from_be_bytes, from_le_bytes}
 use Rattle.rec_id.specs.Identity.{Identity}

@@ -1,6 +1,8 @@
-//! Envelopes as bytes: whether an envelope has a frame in an edition, and the frame itself.
+//! Envelopes as bytes: whether an envelope has a frame in an edition, the frame itself, and the envelope
+//! of a frame.
 //!
-//! The form of a frame stands in words with the messages. Nothing here sends or keeps one.
+//! The form of a frame stands in words with the messages; `specs/Reading.antt` says how bytes are read
+//! from left to right, and with which offence they are refused. Nothing here sends or keeps a frame.
 #![tactic(auto)]
 
 mod laws;

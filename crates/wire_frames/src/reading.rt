@@ -118,8 +118,9 @@ fn whole_of(alloc: Global, bytes: &[u8]) -> Result<(Edition, Envelope), FrameErr
 /// The envelope that the bytes are the frame of, with the edition of the frame: its first byte says
 /// which. Else the first offence, from left to right.
 ///
-/// It goes over the bytes once, and takes memory for what the envelope keeps alone: for the members of
-/// a list only where the bytes that are left can hold so many.
+/// It goes over the bytes once. Memory for the members of a list is asked for at once where the bytes
+/// that are left can hold so many, and else grows with the members that are there: so no count takes
+/// more than the bytes give.
 pub fn decode(alloc: Global, bytes: &[u8]) -> Result<(Edition, Envelope), FrameError>
     // What is read is spelled so, each byte of it.
     ensures form { IfOk result (λ found. Fits found.0 found.1 × (bytes.now ≡ frame found.0 found.1)) }

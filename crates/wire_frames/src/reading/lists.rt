@@ -1,7 +1,7 @@
-//! Lists, and what holds lists. Memory for the members of a list is asked for once, and only where the
-//! bytes that are left can hold so many.
+//! Lists, and what holds lists. Memory for the members of a list is asked for at once where the bytes
+//! that are left can hold so many, and else grows with the members that are there.
 
-ghost use Rattle.std.specs.Prelude.{◌*◌, ◌≤◌, length, nat_le};
+ghost use Rattle.std.specs.Prelude.{◌≡◌, ◌*◌, ◌<◌, ◌≤◌, length, nat_le};
 ghost use Rattle.std.specs.Int.{w16};
 ghost use Rattle.wire_frames.specs.Reading.{Gives, allowed, byte_at, limited, number_at, config_at, id_at, item_at, cell_at, placed_at, list_at, members_at, node_at, nodes_at, shards_at};
 
@@ -13,10 +13,10 @@ use rec_id::{CellList, IdList, ItemList, PlacedList};
 use std::alloc::Global;
 use view_config::{Config, Edition, NodeList, ShardList};
 
-/// For how many members memory is asked for, of at least so many bytes each.
+/// For how many members memory is asked for at once, of at least so many bytes each.
 pub fn room(count: usize, least: usize, left: &[u8]) -> usize
-    ensures wanted { result ≤ count }
-    ensures there { result * least ≤ length left.now }
+    ensures all { count * least ≤ length left.now → result ≡ count }
+    ensures none { length left.now < count * least → result ≡ 0 }
 {
     if count.saturating_mul(least) <= left.len() {
         return count;
