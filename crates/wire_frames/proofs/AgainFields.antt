@@ -132,7 +132,7 @@ reads_config size config fits =
 
 -- ---- marks
 
-end_at_true : (top : ℕ) (words : List ℕ) → EndAt top words → end_at top words ≡ true
+pub end_at_true : (top : ℕ) (words : List ℕ) → EndAt top words → end_at top words ≡ true
 end_at_true top [] ends = refl
 end_at_true top (word ∷ words) ends = rw (lt-ltb word (2 ^ min 64 top) ends.0, end_at_true (top - 64) words ends.1) refl
 

@@ -3,3 +3,9 @@ pub mod Again
 pub mod AgainFields
 pub mod AgainFrame
 pub mod MarkBits
+pub mod Members
+pub mod Bits
+pub mod Found
+pub mod FoundFields
+pub mod FoundFrame
+pub mod Fronts

@@ -1,5 +1,5 @@
 -- What holds of frames.
-use Rattle.std.specs.Prelude.{◌≡◌, ℕ, ◌*◌, ◌/◌, ◌%◌, ◌^◌, ◌<◌, ◌≤◌, Bool, false, ◌==◌, List, [], ◌++◌, length, slice_index}
+use Rattle.std.specs.Prelude.{◌≡◌, ◌≢◌, ℕ, ◌*◌, ◌/◌, ◌%◌, ◌^◌, ◌<◌, ◌≤◌, Bool, false, ◌==◌, List, [], ◌∷◌, ◌++◌, length, slice_index, Err}
 use Rattle.std.specs.List.{flat_map}
 use Rattle.rec_id.specs.declared.marks.Marks.{Marks}
 use Rattle.rec_id.specs.Marks.{bit_of}
@@ -7,6 +7,8 @@ use Rattle.view_config.specs.declared.edition.Edition.{Edition}
 use Rattle.lazy_msgs.specs.declared.msg.Envelope.{Envelope}
 use Rattle.lazy_msgs.specs.Frame.{frame, word_form}
 use Rattle.lazy_msgs.specs.FrameLimits.{Fits, MarksFit}
+use Rattle.wire_frames.specs.declared.offence.FrameError.TheVariants.{Short, Trailing}
+use Rattle.wire_frames.specs.Reading.{whole_at}
 
 -- Frames that begin alike are one: no frame goes on behind another, and each is of one envelope in one
 -- edition.
@@ -25,3 +27,11 @@ MarksByBit = (words : List ℕ) (i : ℕ) → i < 64 * length words → bit_in (
 -- in marks that fit, no bit is set that would stand for a number below 1
 abbrev pub NoneBelowOne : Type 0
 NoneBelowOne = (edition : Edition) (marks : Marks) (i : ℕ) → MarksFit edition marks → marks.top ≤ i → bit_of marks.bits i ≡ false
+
+-- every beginning of a frame, but the whole, is too short
+abbrev pub CutIsShort : Type 0
+CutIsShort = (edition : Edition) (env : Envelope) (front more : List ℕ) → Fits edition env → frame edition env ≡ front ++ more → more ≢ [] → whole_at front ≡ Err Short
+
+-- what goes on behind a frame is refused where the frame ends
+abbrev pub MoreIsTrailing : Type 0
+MoreIsTrailing = (edition : Edition) (env : Envelope) (byte : ℕ) (more : List ℕ) → Fits edition env → whole_at (frame edition env ++ byte ∷ more) ≡ Err (Trailing (length (frame edition env)))

@@ -1,6 +1,9 @@
--- Reading a frame from left to right, with the first offence that is met. `size` is the length of all
--- the bytes, so a field stands at the offset `size` less the bytes that are left.
-use Rattle.std.specs.Prelude.{ℕ, zero, suc, ◌-◌, ◌*◌, ◌%◌, ◌^◌, min, Bool, true, ◌&&◌, ◌||◌, ◌==◌, nat_lt, nat_le, if◌then◌else◌, List, [], ◌∷◌, length, take, drop, slice_index, Option, Some, None, Result, Ok, Err}
+-- Reading a frame from left to right, with the first offence that is met. A field that needs more bytes
+-- than are left is Short; a count or a length over its limit is Over with the limit; any other value that
+-- isn't allowed is Field with the field's offset, or for the kind Kind with its byte; and what stands
+-- behind the last field is Trailing. `size` is the length of all the bytes, so a field stands at the
+-- offset `size` less the bytes that are left.
+use Rattle.std.specs.Prelude.{◌≡◌, ◌≢◌, ℕ, zero, suc, ◌-◌, ◌*◌, ◌%◌, ◌^◌, min, Bool, true, ◌&&◌, ◌||◌, ◌==◌, nat_lt, nat_le, if◌then◌else◌, List, [], ◌∷◌, length, take, drop, slice_index, Option, Some, None, Result, Ok, Err}
 use Rattle.std.specs.Int.{Width, w16, w32, w64, byte_len, from_be_bytes, from_le_bytes}
 use Rattle.rec_id.specs.Identity.{Identity}
 use Rattle.rec_id.specs.declared.entry.Entry.{Entry}
@@ -18,7 +21,7 @@ use Rattle.lazy_msgs.specs.declared.msg.Msg.{Msg}
 use Rattle.lazy_msgs.specs.declared.msg.Msg.TheVariants.{Append, AppendAck, Put, DataAck, Rejected, Place, Placed, Copy, Copied, Order, Ordered, Stable, Probe, ProbeAck, TailReady, Fetch, Part, Flush, FlushCopy, Flushed, Seal, Sealed, SealedEmpty, NewView, Started, AskView, ViewIs, Claim, Trim, TrimAck, TrimmedAt}
 use Rattle.lazy_msgs.specs.FrameLimits.{words_of}
 use Rattle.wire_frames.specs.declared.offence.FrameError.{FrameError}
-use Rattle.wire_frames.specs.declared.offence.FrameError.TheVariants.{Short, Kind, Field, Over}
+use Rattle.wire_frames.specs.declared.offence.FrameError.TheVariants.{Short, Kind, Field, Over, Trailing, Memory}
 
 -- what a reader takes from the front: a value and the bytes after it, or an offence
 abbrev pub Taken : Type 0 → Type 0
@@ -253,3 +256,24 @@ frame_at size = do
   edition ← edition_at
   env ← envelope_at size edition
   done (edition, env)
+
+-- nothing may be left
+abbrev pub ended : {A : Type 0} → ℕ → Taken A → Result A FrameError
+ended size (Ok (value, [])) = Ok value
+ended size (Ok (value, byte ∷ more)) = Err (Trailing (size - length (byte ∷ more)))
+ended size (Err offence) = Err offence
+
+-- all of the bytes: the envelope that they are the frame of, or their first offence
+unfoldable pub whole_at : List ℕ → Result (Edition × Envelope) FrameError
+whole_at bytes = ended (length bytes) (frame_at (length bytes) bytes)
+
+-- ---- code
+
+-- What a function answered, seen by `view`, and the bytes that it left are what reading gives, unless
+-- memory ran out.
+abbrev pub GivesAs : {X A : Type 0} → (X → A) → Result X FrameError → List ℕ → Taken A → Type 0
+GivesAs view (Ok x) left read = read ≡ Ok (view x, left)
+GivesAs view (Err offence) left read = offence ≢ Memory → read ≡ Err offence
+
+abbrev pub Gives : {A : Type 0} → Result A FrameError → List ℕ → Taken A → Type 0
+Gives result left read = GivesAs (λ x. x) result left read

@@ -1,6 +1,6 @@
 //! What holds of frames, apart from any code.
 
-ghost use Rattle.wire_frames.specs.Laws.{OneForm, MarksByBit, NoneBelowOne};
+ghost use Rattle.wire_frames.specs.Laws.{OneForm, MarksByBit, NoneBelowOne, CutIsShort, MoreIsTrailing};
 
 /// No frame begins another, and no two envelopes have one frame: a frame, in either edition, that
 /// begins with a whole frame is that frame, of the same envelope in the same edition.
@@ -13,4 +13,11 @@ pub fn one_form()
 pub fn marks_by_bit()
     ensures bits { MarksByBit }
     ensures below_one { NoneBelowOne }
+{}
+
+/// Frames that are cut off or go on. Read from left to right, each beginning of a frame is too short,
+/// and a frame with bytes behind it is refused where the frame ends.
+pub fn cut_or_more()
+    ensures cut { CutIsShort }
+    ensures more { MoreIsTrailing }
 {}

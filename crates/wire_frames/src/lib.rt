@@ -1,17 +1,21 @@
-//! Envelopes as bytes: whether an envelope has a frame in an edition, and the frame itself.
+//! Envelopes as bytes: whether an envelope has a frame in an edition, the frame itself, and the envelope
+//! of a frame.
 //!
-//! The form of a frame stands in words with the messages. Nothing here sends or keeps one.
+//! The form of a frame stands in words with the messages; `specs/Reading.antt` says how bytes are read
+//! from left to right, and with which offence they are refused. Nothing here sends or keeps a frame.
 #![tactic(auto)]
 
 mod laws;
 mod lengths;
 mod limits;
 mod offence;
+mod reading;
 mod writing;
 
-pub use laws::{marks_by_bit, one_form};
+pub use laws::{cut_or_more, marks_by_bit, one_form};
 pub use limits::fits;
 pub use offence::FrameError;
+pub use reading::{decode, read_again};
 pub use writing::encode;
 
 #[cfg(test)]

@@ -150,7 +150,7 @@ fn config_fits(config: &Config) -> bool
 }
 
 /// How many words the bits of a client take.
-fn words_of(edition: Edition) -> usize
+pub fn words_of(edition: Edition) -> usize
     ensures { result ≡ words_of edition }
 {
     match edition {
@@ -166,7 +166,7 @@ fn word_ends(word: u64, top: u32) -> bool
 }
 
 /// Whether no bit of the words from bit `top` on is set.
-fn words_end(top: u32, words: &Words) -> bool
+pub fn words_end(top: u32, words: &Words) -> bool
     ensures { IsTrue result ↔ EndAt top words.now }
 {
     let mut left = top;

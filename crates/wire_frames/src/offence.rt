@@ -1,5 +1,10 @@
 //! Why bytes are no frame.
 
+ghost use Rattle.std.specs.Prelude.{◌≡◌};
+ghost use Rattle.wire_frames.specs.declared.offence.FrameError.TheVariants.{Memory};
+
+use std::alloc::{AllocError, AllocFailed};
+
 /// The first offence of the bytes, from left to right. Offsets count from 0, and a field is meant by
 /// its first byte.
 #[derive(Clone, Copy, Debug, PartialEq, Eq)]
@@ -15,4 +20,20 @@ pub enum FrameError {
     /// The message ends at this offset, and bytes follow.
     Trailing(usize),
     Memory,
+}
+
+impl From<AllocError> for FrameError {
+    ghost from_gives = { λ _ e. e ≡ Memory };
+
+    fn from(_error: AllocError) -> FrameError {
+        FrameError::Memory
+    }
+}
+
+impl<T: Drop> From<AllocFailed<T>> for FrameError {
+    ghost from_gives = { λ _ e. e ≡ Memory };
+
+    fn from(_error: AllocFailed<T>) -> FrameError {
+        FrameError::Memory
+    }
 }

@@ -1,5 +1,7 @@
 //! Frames worked out by hand from the form, one of each kind in each edition.
 
+mod decoding;
+
 use super::*;
 use lazy_msgs::{Envelope, Msg};
 use rec_id::{

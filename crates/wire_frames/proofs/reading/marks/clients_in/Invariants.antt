@@ -1,0 +1,7 @@
+use Rattle.std.proofs.Common.{◌≡◌, ◌-◌}
+use Rattle.wire_frames.specs.Reading.{members_at, marks_at}
+use Rattle.wire_frames.proofs.Members.{with_front}
+use Rattle.wire_frames.proofs.reading.marks.clients_in.Given as goal
+
+abbrev pub invariant-loop : goal.invariant-loop
+invariant-loop l = with_front l.window (members_at (marks_at l.edition l.size) (l.count - l.counter) l.left.now) ≡ members_at (marks_at l.edition l.size) l.count l.fn.left.now

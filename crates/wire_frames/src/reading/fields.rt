@@ -1,0 +1,157 @@
+//! Fields of several parts. What owns memory takes exactly what it keeps.
+
+ghost use Rattle.wire_frames.specs.Reading.{Gives, id_at, size_at, bytes_at, optional_at, item_at, body_at, cell_at, entry_at, placed_at};
+
+use super::numbers::{byte_of, field, four_of, part_of, two_of};
+use crate::offence::FrameError;
+use rec_id::{Body, Bytes, Cell, Entry, Item, RecordId};
+use std::alloc::Global;
+use view_config::Edition;
+
+#[tactic(auto, unfolding(crate::specs::Reading::id_at, crate::specs::Reading::counted_at))]
+pub fn id_of(size: usize, left: &mut &[u8]) -> Result<RecordId, FrameError>
+    ensures { Gives result left.new.now (id_at size left.old.now) }
+{
+    let client = byte_of(left)?;
+    let before = *left;
+    let number = four_of(left)?;
+    match RecordId::new(u32::from(client), number) {
+        Ok(id) => Ok(id),
+        Err(_) => Err(field(size, before)),
+    }
+}
+
+/// How many bytes of data follow.
+fn size_of(edition: Edition, left: &mut &[u8]) -> Result<usize, FrameError>
+    ensures { Gives result left.new.now (size_at edition left.old.now) }
+{
+    match edition {
+        Edition::One => {
+            let len = two_of(left)?;
+            if len > 4_096 {
+                return Err(FrameError::Over(4_096));
+            }
+            Ok(usize::from(len))
+        }
+        Edition::Two => {
+            let len = four_of(left)?;
+            if len > 65_536 {
+                return Err(FrameError::Over(65_536));
+            }
+            Ok(len as usize)
+        }
+    }
+}
+
+#[tactic(auto, unfolding(crate::specs::Reading::bytes_at))]
+pub fn bytes_of(alloc: Global, edition: Edition, left: &mut &[u8]) -> Result<Bytes, FrameError>
+    ensures { Gives result left.new.now (bytes_at edition left.old.now) }
+{
+    let len = size_of(edition, left)?;
+    let data = part_of(len, left)?;
+    Ok(Bytes::copy(alloc, data)?)
+}
+
+#[tactic(auto, unfolding(crate::specs::Reading::optional_at))]
+pub fn optional_of(
+    alloc: Global,
+    edition: Edition,
+    size: usize,
+    left: &mut &[u8],
+) -> Result<Option<Bytes>, FrameError>
+    ensures { Gives result left.new.now (optional_at edition size left.old.now) }
+{
+    let before = *left;
+    match byte_of(left)? {
+        0 => Ok(None),
+        1 => {
+            let bytes = bytes_of(alloc, edition, left)?;
+            Ok(Some(bytes))
+        }
+        _ => Err(field(size, before)),
+    }
+}
+
+#[tactic(auto, unfolding(crate::specs::Reading::item_at))]
+pub fn item_of(
+    alloc: Global,
+    edition: Edition,
+    size: usize,
+    left: &mut &[u8],
+) -> Result<Item, FrameError>
+    ensures { Gives result left.new.now (item_at edition size left.old.now) }
+{
+    let id = id_of(size, left)?;
+    let bytes = optional_of(alloc, edition, size, left)?;
+    Ok(Item { id, bytes })
+}
+
+#[tactic(auto, unfolding(crate::specs::Reading::body_at))]
+fn body_of(
+    alloc: Global,
+    edition: Edition,
+    size: usize,
+    left: &mut &[u8],
+) -> Result<Body, FrameError>
+    ensures { Gives result left.new.now (body_at edition size left.old.now) }
+{
+    let before = *left;
+    match byte_of(left)? {
+        0 => Ok(Body::Elsewhere),
+        1 => {
+            let bytes = bytes_of(alloc, edition, left)?;
+            Ok(Body::Kept(bytes))
+        }
+        2 => Ok(Body::Noop),
+        _ => Err(field(size, before)),
+    }
+}
+
+#[tactic(auto, unfolding(crate::specs::Reading::cell_at))]
+pub fn cell_of(
+    alloc: Global,
+    edition: Edition,
+    size: usize,
+    left: &mut &[u8],
+) -> Result<Cell, FrameError>
+    ensures { Gives result left.new.now (cell_at edition size left.old.now) }
+{
+    let id = id_of(size, left)?;
+    let body = body_of(alloc, edition, size, left)?;
+    Ok(Cell { id, body })
+}
+
+#[tactic(auto, unfolding(crate::specs::Reading::entry_at))]
+fn entry_of(
+    alloc: Global,
+    edition: Edition,
+    size: usize,
+    left: &mut &[u8],
+) -> Result<Entry, FrameError>
+    ensures { Gives result left.new.now (entry_at edition size left.old.now) }
+{
+    let id = id_of(size, left)?;
+    let before = *left;
+    match byte_of(left)? {
+        1 => {
+            let bytes = bytes_of(alloc, edition, left)?;
+            Ok(Entry::Kept(id, bytes))
+        }
+        2 => Ok(Entry::Noop(id)),
+        _ => Err(field(size, before)),
+    }
+}
+
+#[tactic(auto, unfolding(crate::specs::Reading::placed_at))]
+pub fn placed_of(
+    alloc: Global,
+    edition: Edition,
+    size: usize,
+    left: &mut &[u8],
+) -> Result<(u32, Entry), FrameError>
+    ensures { Gives result left.new.now (placed_at edition size left.old.now) }
+{
+    let place = four_of(left)?;
+    let entry = entry_of(alloc, edition, size, left)?;
+    Ok((place, entry))
+}

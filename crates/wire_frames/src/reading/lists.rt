@@ -1,0 +1,225 @@
+//! Lists, and what holds lists. Memory for the members of a list is asked for at once where the bytes
+//! that are left can hold so many, and else grows with the members that are there.
+
+ghost use Rattle.std.specs.Prelude.{◌≡◌, ◌*◌, ◌<◌, ◌≤◌, length, nat_le};
+ghost use Rattle.std.specs.Int.{w16};
+ghost use Rattle.wire_frames.specs.Reading.{Gives, allowed, byte_at, limited, number_at, config_at, id_at, item_at, cell_at, placed_at, list_at, members_at, node_at, nodes_at, shards_at};
+
+use super::fields::{cell_of, id_of, item_of, placed_of};
+use super::numbers::{byte_of, counted_of, field, node_of, two_of};
+use crate::offence::FrameError;
+use plain_lists::Sequence;
+use rec_id::{CellList, IdList, ItemList, PlacedList};
+use std::alloc::Global;
+use view_config::{Config, Edition, NodeList, ShardList};
+
+/// For how many members memory is asked for at once, of at least so many bytes each.
+pub fn room(count: usize, least: usize, left: &[u8]) -> usize
+    ensures all { count * least ≤ length left.now → result ≡ count }
+    ensures none { length left.now < count * least → result ≡ 0 }
+{
+    if count.saturating_mul(least) <= left.len() {
+        return count;
+    }
+    0
+}
+
+/// How many members follow, at most `limit`.
+pub fn count_of(limit: u32, left: &mut &[u8]) -> Result<usize, FrameError>
+    ensures { Gives result left.new.now (limited limit (number_at w16) left.old.now) }
+{
+    let count = two_of(left)?;
+    if u32::from(count) > limit {
+        return Err(FrameError::Over(limit));
+    }
+    Ok(usize::from(count))
+}
+
+/// How many nodes or shards follow, from 1 to `limit`.
+fn few_of(size: usize, limit: u32, left: &mut &[u8]) -> Result<usize, FrameError>
+    ensures { Gives result left.new.now (allowed size (nat_le 1) (limited limit byte_at) left.old.now) }
+{
+    let before = *left;
+    let count = byte_of(left)?;
+    if u32::from(count) > limit {
+        return Err(FrameError::Over(limit));
+    }
+    if count < 1 {
+        return Err(field(size, before));
+    }
+    Ok(usize::from(count))
+}
+
+fn items_in(
+    alloc: Global,
+    edition: Edition,
+    size: usize,
+    count: usize,
+    left: &mut &[u8],
+) -> Result<ItemList, FrameError>
+    ensures { Gives result left.new.now (members_at (item_at edition size) count left.old.now) }
+{
+    let mut items = Sequence::from_vec(Vec::with_capacity(alloc, room(count, 6, left))?);
+    for _ in 0..count {
+        let item = item_of(alloc, edition, size, left)?;
+        items.push(item)?;
+    }
+    Ok(items)
+}
+
+#[tactic(auto, unfolding(crate::specs::Reading::list_at))]
+pub fn items_of(
+    alloc: Global,
+    edition: Edition,
+    size: usize,
+    limit: u32,
+    left: &mut &[u8],
+) -> Result<ItemList, FrameError>
+    ensures { Gives result left.new.now (list_at limit (item_at edition size) left.old.now) }
+{
+    let count = count_of(limit, left)?;
+    items_in(alloc, edition, size, count, left)
+}
+
+fn cells_in(
+    alloc: Global,
+    edition: Edition,
+    size: usize,
+    count: usize,
+    left: &mut &[u8],
+) -> Result<CellList, FrameError>
+    ensures { Gives result left.new.now (members_at (cell_at edition size) count left.old.now) }
+{
+    let mut cells = Sequence::from_vec(Vec::with_capacity(alloc, room(count, 6, left))?);
+    for _ in 0..count {
+        let cell = cell_of(alloc, edition, size, left)?;
+        cells.push(cell)?;
+    }
+    Ok(cells)
+}
+
+#[tactic(auto, unfolding(crate::specs::Reading::list_at))]
+pub fn cells_of(
+    alloc: Global,
+    edition: Edition,
+    size: usize,
+    limit: u32,
+    left: &mut &[u8],
+) -> Result<CellList, FrameError>
+    ensures { Gives result left.new.now (list_at limit (cell_at edition size) left.old.now) }
+{
+    let count = count_of(limit, left)?;
+    cells_in(alloc, edition, size, count, left)
+}
+
+fn ids_in(alloc: Global, size: usize, count: usize, left: &mut &[u8]) -> Result<IdList, FrameError>
+    ensures { Gives result left.new.now (members_at (id_at size) count left.old.now) }
+{
+    let mut ids = Sequence::from_vec(Vec::with_capacity(alloc, room(count, 5, left))?);
+    for _ in 0..count {
+        let id = id_of(size, left)?;
+        ids.push(id)?;
+    }
+    Ok(ids)
+}
+
+#[tactic(auto, unfolding(crate::specs::Reading::list_at))]
+pub fn ids_of(alloc: Global, size: usize, left: &mut &[u8]) -> Result<IdList, FrameError>
+    ensures { Gives result left.new.now (list_at 64 (id_at size) left.old.now) }
+{
+    let count = count_of(64, left)?;
+    ids_in(alloc, size, count, left)
+}
+
+fn entries_in(
+    alloc: Global,
+    edition: Edition,
+    size: usize,
+    count: usize,
+    left: &mut &[u8],
+) -> Result<PlacedList, FrameError>
+    ensures { Gives result left.new.now (members_at (placed_at edition size) count left.old.now) }
+{
+    let mut entries = Sequence::from_vec(Vec::with_capacity(alloc, room(count, 10, left))?);
+    for _ in 0..count {
+        let placed = placed_of(alloc, edition, size, left)?;
+        entries.push(placed)?;
+    }
+    Ok(entries)
+}
+
+#[tactic(auto, unfolding(crate::specs::Reading::list_at))]
+pub fn entries_of(
+    alloc: Global,
+    edition: Edition,
+    size: usize,
+    left: &mut &[u8],
+) -> Result<PlacedList, FrameError>
+    ensures { Gives result left.new.now (list_at 256 (placed_at edition size) left.old.now) }
+{
+    let count = count_of(256, left)?;
+    entries_in(alloc, edition, size, count, left)
+}
+
+fn nodes_in(
+    alloc: Global,
+    size: usize,
+    count: usize,
+    left: &mut &[u8],
+) -> Result<NodeList, FrameError>
+    ensures { Gives result left.new.now (members_at (node_at size) count left.old.now) }
+{
+    let mut nodes = Sequence::from_vec(Vec::with_capacity(alloc, room(count, 2, left))?);
+    for _ in 0..count {
+        let node = node_of(size, left)?;
+        nodes.push(node)?;
+    }
+    Ok(nodes)
+}
+
+#[tactic(auto, unfolding(crate::specs::Reading::nodes_at))]
+fn nodes_of(
+    alloc: Global,
+    size: usize,
+    limit: u32,
+    left: &mut &[u8],
+) -> Result<NodeList, FrameError>
+    ensures { Gives result left.new.now (nodes_at size limit left.old.now) }
+{
+    let count = few_of(size, limit, left)?;
+    nodes_in(alloc, size, count, left)
+}
+
+fn shards_in(
+    alloc: Global,
+    size: usize,
+    count: usize,
+    left: &mut &[u8],
+) -> Result<ShardList, FrameError>
+    ensures { Gives result left.new.now (members_at (nodes_at size 4) count left.old.now) }
+{
+    let mut shards = Sequence::from_vec(Vec::with_capacity(alloc, room(count, 3, left))?);
+    for _ in 0..count {
+        let nodes = nodes_of(alloc, size, 4, left)?;
+        shards.push(nodes)?;
+    }
+    Ok(shards)
+}
+
+#[tactic(auto, unfolding(crate::specs::Reading::shards_at))]
+fn shards_of(alloc: Global, size: usize, left: &mut &[u8]) -> Result<ShardList, FrameError>
+    ensures { Gives result left.new.now (shards_at size left.old.now) }
+{
+    let count = few_of(size, 8, left)?;
+    shards_in(alloc, size, count, left)
+}
+
+#[tactic(auto, unfolding(crate::specs::Reading::config_at))]
+pub fn config_of(alloc: Global, size: usize, left: &mut &[u8]) -> Result<Config, FrameError>
+    ensures { Gives result left.new.now (config_at size left.old.now) }
+{
+    let view = counted_of(size, left)?;
+    let seq = nodes_of(alloc, size, 7, left)?;
+    let shards = shards_of(alloc, size, left)?;
+    Ok(Config { view, seq, shards })
+}

@@ -1,0 +1,125 @@
+//! Changes of the view.
+
+ghost use Rattle.std.specs.Int.{w32};
+ghost use Rattle.lazy_msgs.specs.declared.msg.Msg.TheVariants.{Flush, FlushCopy, Flushed, Seal, Sealed, SealedEmpty, NewView, Started, ViewIs, Claim};
+ghost use Rattle.wire_frames.specs.Reading.{Gives, cell_at, config_at, counted_at, four_fields, item_at, list_at, number_at, one_field, three_fields, window_at};
+
+use crate::offence::FrameError;
+use crate::reading::lists::{cells_of, config_of, items_of};
+use crate::reading::marks::window_of;
+use crate::reading::numbers::{counted_of, four_of};
+use lazy_msgs::Msg;
+use std::alloc::Global;
+use view_config::Edition;
+
+pub fn flush_of(
+    alloc: Global,
+    edition: Edition,
+    size: usize,
+    left: &mut &[u8],
+) -> Result<Msg, FrameError>
+    ensures { Gives result left.new.now (three_fields (config_at size) (number_at w32) (list_at 4096 (item_at edition size)) Flush left.old.now) }
+{
+    let config = config_of(alloc, size, left)?;
+    let from = four_of(left)?;
+    let items = items_of(alloc, edition, size, 4_096, left)?;
+    Ok(Msg::Flush {
+        config,
+        from,
+        items,
+    })
+}
+
+pub fn flush_copy_of(
+    alloc: Global,
+    edition: Edition,
+    size: usize,
+    left: &mut &[u8],
+) -> Result<Msg, FrameError>
+    ensures { Gives result left.new.now (three_fields (counted_at size) (number_at w32) (list_at 4096 (cell_at edition size)) FlushCopy left.old.now) }
+{
+    let view = counted_of(size, left)?;
+    let from = four_of(left)?;
+    let cells = cells_of(alloc, edition, size, 4_096, left)?;
+    Ok(Msg::FlushCopy { view, from, cells })
+}
+
+pub fn flushed_of(size: usize, left: &mut &[u8]) -> Result<Msg, FrameError>
+    ensures { Gives result left.new.now (one_field (counted_at size) Flushed left.old.now) }
+{
+    let view = counted_of(size, left)?;
+    Ok(Msg::Flushed { view })
+}
+
+pub fn seal_of(size: usize, left: &mut &[u8]) -> Result<Msg, FrameError>
+    ensures { Gives result left.new.now (one_field (counted_at size) Seal left.old.now) }
+{
+    let view = counted_of(size, left)?;
+    Ok(Msg::Seal { view })
+}
+
+pub fn sealed_of(
+    alloc: Global,
+    edition: Edition,
+    size: usize,
+    left: &mut &[u8],
+) -> Result<Msg, FrameError>
+    ensures { Gives result left.new.now (four_fields (counted_at size) (number_at w32) (window_at edition size) (list_at 4096 (item_at edition size)) Sealed left.old.now) }
+{
+    let view = counted_of(size, left)?;
+    let bound = four_of(left)?;
+    let window = window_of(alloc, edition, size, left)?;
+    let items = items_of(alloc, edition, size, 4_096, left)?;
+    Ok(Msg::Sealed {
+        view,
+        bound,
+        window,
+        items,
+    })
+}
+
+pub fn sealed_empty_of(size: usize, left: &mut &[u8]) -> Result<Msg, FrameError>
+    ensures { Gives result left.new.now (one_field (counted_at size) SealedEmpty left.old.now) }
+{
+    let view = counted_of(size, left)?;
+    Ok(Msg::SealedEmpty { view })
+}
+
+pub fn new_view_of(
+    alloc: Global,
+    edition: Edition,
+    size: usize,
+    left: &mut &[u8],
+) -> Result<Msg, FrameError>
+    ensures { Gives result left.new.now (three_fields (config_at size) (number_at w32) (window_at edition size) NewView left.old.now) }
+{
+    let config = config_of(alloc, size, left)?;
+    let base = four_of(left)?;
+    let window = window_of(alloc, edition, size, left)?;
+    Ok(Msg::NewView {
+        config,
+        base,
+        window,
+    })
+}
+
+pub fn started_of(size: usize, left: &mut &[u8]) -> Result<Msg, FrameError>
+    ensures { Gives result left.new.now (one_field (counted_at size) Started left.old.now) }
+{
+    let view = counted_of(size, left)?;
+    Ok(Msg::Started { view })
+}
+
+pub fn view_is_of(alloc: Global, size: usize, left: &mut &[u8]) -> Result<Msg, FrameError>
+    ensures { Gives result left.new.now (one_field (config_at size) ViewIs left.old.now) }
+{
+    let config = config_of(alloc, size, left)?;
+    Ok(Msg::ViewIs { config })
+}
+
+pub fn claim_of(left: &mut &[u8]) -> Result<Msg, FrameError>
+    ensures { Gives result left.new.now (one_field (number_at w32) Claim left.old.now) }
+{
+    let stable = four_of(left)?;
+    Ok(Msg::Claim { stable })
+}
