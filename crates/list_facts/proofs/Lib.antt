@@ -5,3 +5,5 @@ pub mod Precedence
 pub mod Fronts
 pub mod Distinctness
 pub mod Puts
+pub mod Changes
+pub mod Ranges

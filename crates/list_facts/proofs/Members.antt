@@ -1,7 +1,7 @@
 -- What stands in a list, and what holds of each member.
 use Rattle.std.proofs.Common.{◌≡◌, ◌⊎◌, List, [], ◌∷◌, ◌++◌, map, Bool, true, false, cond, inl, inr, refl, sym, ap, ◌∙◌, subst}
-use Rattle.std.specs.List.{list_any, filter}
-use Rattle.std.proofs.lemmas.Bool.{or_cases, or_left, or_right}
+use Rattle.std.specs.List.{list_any, list_all, filter}
+use Rattle.std.proofs.lemmas.Bool.{and_parts, or_cases, or_left, or_right}
 use Rattle.list_facts.specs.Lists.{In, Each}
 
 module _ {A : Type 0} where
@@ -64,6 +64,12 @@ module _ {A : Type 0} where
   passes_in p [] x m h = absurd m
   passes_in p (z ∷ zs) x (inl e) h = or_left (p z) (list_any p zs) (ap p e ∙ h)
   passes_in p (z ∷ zs) x (inr k) h = or_right (p z) (list_any p zs) (passes_in p zs x k h)
+
+  -- a test that computes whether all pass
+  pub all_pass : (p : A → Bool) (xs : List A) → list_all p xs ≡ true → (x : A) → In x xs → p x ≡ true
+  all_pass p [] h x m = absurd m
+  all_pass p (z ∷ zs) h x (inl e) = ap p (sym e) ∙ (and_parts (p z) (list_all p zs) h).0
+  all_pass p (z ∷ zs) h x (inr m) = all_pass p zs (and_parts (p z) (list_all p zs) h).1 x m
 
   -- of what passes a test
   pub in_filter : (p : A → Bool) (xs : List A) (x : A) → In x (filter p xs) → In x xs × (p x ≡ true)

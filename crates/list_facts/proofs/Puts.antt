@@ -1,5 +1,5 @@
 -- A function with another value at one number.
-use Rattle.std.proofs.Common.{◌≡◌, ◌≢◌, ℕ, ◌<◌, List, length, get_or, Bool, true, false, refl, sym, subst, arith}
+use Rattle.std.proofs.Common.{ap, ◌≡◌, ◌≢◌, ℕ, ◌<◌, List, length, get_or, Bool, true, false, refl, sym, subst, arith}
 use Rattle.std.specs.Prelude.{◌==◌, slice_set, if◌then◌else◌}
 use Rattle.std.proofs.lemmas.List.{get_or-set_same, get_or-set_other}
 use Rattle.std.proofs.Math.Path.{fun_ext}
@@ -27,3 +27,11 @@ module _ {A : Type 0} where
       by : (n : ℕ) (b : Bool) → (n == me) ≡ b → get_or (slice_set xs me x) n d ≡ (if b then x else get_or xs n d)
       by n true e = let same : n ≡ me = grind arith in rw same (get_or-set_same xs me x d inside)
       by n false e = let other : n ≢ me = grind arith in get_or-set_other xs me n x d other
+
+  -- the value that is there
+  pub put_same : (f : ℕ → A) (me : ℕ) → put f me (f me) ≡ f
+  put_same f me = fun_ext (λ n. by n (n == me) refl)
+    where
+      by : (n : ℕ) (b : Bool) → (n == me) ≡ b → (if b then f me else f n) ≡ f n
+      by n true e = let same : n ≡ me = grind arith in ap f (sym same)
+      by n false e = refl

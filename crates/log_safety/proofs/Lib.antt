@@ -1,0 +1,17 @@
+pub mod Parts
+pub mod Facts
+pub mod Said
+pub mod Marking
+pub mod Opens
+pub mod Clients
+pub mod Frames
+pub mod AppendRow
+pub mod Telling
+pub mod PostRow
+pub mod AckRow
+pub mod Nodes
+pub mod Worlds
+pub mod Beginning
+pub mod Runs
+pub mod Lawfulness
+pub mod HolderLines
