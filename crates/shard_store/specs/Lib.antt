@@ -1,0 +1,4 @@
+pub mod Kinds
+pub mod Links
+pub mod Places
+pub mod Holding
