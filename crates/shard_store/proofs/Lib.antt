@@ -1,3 +1,6 @@
 pub mod LinkLemmas
 pub mod FirstPlace
 pub mod Indexed
+pub mod Positions
+pub mod Identities
+pub mod Holdings
