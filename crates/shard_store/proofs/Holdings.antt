@@ -6,7 +6,7 @@ use Rattle.std.proofs.lemmas.Bool.{and_parts, and_from, or_parts, or_from, not-t
 use Rattle.std.proofs.lemmas.List.Folds.{list_any-append}
 use Rattle.rec_id.specs.Identity.{Identity}
 use Rattle.lazy_rules.specs.Ids.{same_id}
-use Rattle.lazy_rules.specs.Store.{held_bytes, without_held}
+use Rattle.lazy_rules.specs.Store.{held_bytes, without_held, held_beside, filled_or_open}
 use Rattle.shard_store.specs.Holding.{is_held, is_distinct}
 use Rattle.shard_store.proofs.Identities.{same_is, apart_turned}
 use Rattle.shard_store.proofs.Positions.{position_some, none_passes}
@@ -119,3 +119,11 @@ without_absent (x ∷ xs) id = by_test (same_id x.0 id) refl (without_absent xs 
     by_test : (b : Bool) → same_id x.0 id ≡ b → is_held (without_held xs id) id ≡ false → is_held (cond (not b) (x ∷ without_held xs id) (without_held xs id)) id ≡ false
     by_test true is rest = rest
     by_test false is rest = or_from (same_id x.0 id) (is_held (without_held xs id) id) is rest
+
+-- what is held beside a cell that got the held data, if there was some
+pub drawn_rest : (held : List Pair) (id : Identity) → without_held held id ≡ held_beside (filled_or_open (held_bytes held id)) held id
+drawn_rest held id = by_bytes (held_bytes held id) refl
+  where
+    by_bytes : (bytes : Option (List ℕ)) → held_bytes held id ≡ bytes → without_held held id ≡ held_beside (filled_or_open bytes) held id
+    by_bytes None is = absent_without held id (no_bytes_absent held id is)
+    by_bytes (Some b) is = refl

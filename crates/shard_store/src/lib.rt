@@ -10,3 +10,4 @@ mod held;
 mod kinds;
 mod links;
 mod order;
+mod settling;
