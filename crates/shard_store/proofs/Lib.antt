@@ -4,3 +4,4 @@ pub mod Indexed
 pub mod Positions
 pub mod Identities
 pub mod Holdings
+pub mod Closing

@@ -1,7 +1,7 @@
-use Rattle.std.specs.Prelude.{ℕ, ◌+◌, ◌^◌, ◌<◌, ◌≤◌, ◌≡◌, List, [], ◌∷◌, length, if◌then◌else◌}
+use Rattle.std.specs.Prelude.{ℕ, ◌+◌, ◌^◌, ◌<◌, ◌≤◌, ◌≡◌, List, [], ◌∷◌, length, map, if◌then◌else◌}
 use Rattle.rec_id.specs.declared.item.Cell.{Cell}
-use Rattle.lazy_rules.specs.Store.{is_open}
-use Rattle.shard_store.specs.Links.{tag_in, IsLinked}
+use Rattle.lazy_rules.specs.Store.{is_open, closed_cell, given_up_cell}
+use Rattle.shard_store.specs.Links.{cell_at, tag_in, IsLinked}
 
 -- an order, and for how many cells more it has room
 pub record Places : Type 0 where
@@ -24,3 +24,17 @@ pub record IsIndexed (cells : List Cell) (heads before opens : List ℕ) (spare 
   pub cell_room_is : length cells + spare ≤ cell_room
   pub before_room_is : length cells + spare ≤ before_room
   pub open_room_is : length opens + spare ≤ open_room
+
+-- what is kept in [from, to) was given up, and the rest stays
+pub record IsGivenUp (from to : ℕ) (before after : List Cell) : Type 0 where
+  pub len : length after ≡ length before
+  pub within : (place : ℕ) → from ≤ place → place < to → cell_at after place ≡ given_up_cell (cell_at before place)
+  pub below : (place : ℕ) → place < from → cell_at after place ≡ cell_at before place
+  pub above : (place : ℕ) → to ≤ place → cell_at after place ≡ cell_at before place
+
+-- open cells have become no-ops, all but those at these places
+pub record IsClosing (before now : List Cell) (opens : List ℕ) : Type 0 where
+  pub len : length now ≡ length before
+  pub ids : (place : ℕ) → (cell_at now place).id ≡ (cell_at before place).id
+  pub left : open_from 0 now ≡ opens
+  pub same : map closed_cell now ≡ map closed_cell before

@@ -1,13 +1,15 @@
 //! The order of all records, found by their identities.
 
-ghost use Rattle.std.specs.Prelude.{◌≡◌, ◌+◌, ◌-◌, ◌^◌, ◌<◌, ◌≤◌, ◌++◌, ◌∷◌, [], ℕ, List, length, position, slice_get, Some, OnOk, vec_len, vec_capacity};
-ghost use Rattle.lazy_rules.specs.Store.{is_cell_of};
+ghost use Rattle.std.specs.Prelude.{◌≡◌, ◌+◌, ◌-◌, ◌^◌, ◌<◌, ◌≤◌, ◌++◌, ◌∷◌, [], ◌==◌, true, false, map, filter, slice_set, ℕ, List, length, position, slice_get, Some, OnOk, vec_len, vec_capacity};
+ghost use Rattle.std.specs.List.{remove, position_or_len};
+ghost use Rattle.lazy_rules.specs.Store.{is_cell_of, is_open, closed_cell};
+ghost use Rattle.shard_store.specs.Links.{cell_at};
 ghost use Rattle.shard_store.specs.Kinds.{is_of};
-ghost use Rattle.shard_store.specs.Places.{Places, open_from};
+ghost use Rattle.shard_store.specs.Places.{Places, open_from, IsGivenUp, IsClosing};
 
 use crate::kinds::{Kind, is_cell_of, is_of};
 use crate::links::{bucket, make_buckets};
-use rec_id::{Cell, RecordId};
+use rec_id::{Body, Cell, RecordId};
 use std::alloc::{AllocError, Global};
 use std::marker::Model;
 
@@ -85,6 +87,13 @@ impl Order {
         found
     }
 
+    /// The first open place.
+    pub(crate) fn first_open(&self) -> Option<u32>
+        ensures { result ≡ position (λ cell. is_open cell.body) self.now.cells }
+    {
+        first_of(&self.opens)
+    }
+
     /// Makes room for so many cells more.
     pub(crate) fn reserve(&mut self, more: usize) -> Result<(), AllocError>
         requires { length self.old.cells + more < 2 ^ 32 }
@@ -130,6 +139,37 @@ impl Order {
         forget_open(&mut self.opens, &cell);
         cell
     }
+
+    /// Gives the open cell at `place` another body.
+    pub(crate) fn close(&mut self, place: u32, body: Body)
+        requires inside { place < length self.old.cells }
+        requires open_ { is_open (cell_at self.old.cells place).body ≡ true }
+        requires closed { is_open body ≡ false }
+        ensures { self.new ≡ record self.old { cells = slice_set self.old.cells place (record { id = (cell_at self.old.cells place).id; body = body }) } }
+    {
+        forget_place(&mut self.opens, place);
+        set_body(&mut self.cells, place as usize, body);
+    }
+
+    /// Makes all open cells no-ops. How many these are is the result.
+    pub(crate) fn close_all(&mut self) -> u32
+        ensures count { result ≡ length (filter (λ cell. is_open cell.body) self.old.cells) }
+        ensures cells { self.new ≡ record self.old { cells = map closed_cell self.old.cells } }
+    {
+        close_cells(&mut self.cells, &self.opens);
+        let count = self.opens.len() as u32;
+        self.opens.truncate(0);
+        count
+    }
+
+    /// Gives the kept data of the cells of `[from, to)` up.
+    pub(crate) fn give_up(&mut self, from: u32, to: u32)
+        requires range { (from ≤ to) × (to ≤ length self.old.cells) }
+        ensures spare { self.new.spare ≡ self.old.spare }
+        ensures cells { IsGivenUp from to self.old.cells self.new.cells }
+    {
+        give_up_cells(&mut self.cells, from as usize, to as usize);
+    }
 }
 
 /// Takes off the last of some members.
@@ -162,5 +202,60 @@ fn forget_open(opens: &mut Vec<u32>, cell: &Cell)
 {
     if is_of(Kind::Open, &cell.body) {
         let _ = opens.pop();
+    }
+}
+
+fn first_of(places: &[u32]) -> Option<u32>
+    ensures { result ≡ slice_get places.now 0 }
+{
+    places.first().copied()
+}
+
+fn find_place(places: &[u32], place: u32) -> Option<usize>
+    ensures { result ≡ position (λ other. other == place) places.now }
+{
+    places.iter().position(|other| *other == place)
+}
+
+/// Takes out the first of some places that is this one.
+fn forget_place(opens: &mut Vec<u32>, place: u32)
+    ensures items { opens.new.items ≡ remove opens.old.items (position_or_len (λ other. other == place) opens.old.items) }
+    ensures capacity { vec_capacity opens.new ≡ vec_capacity opens.old }
+{
+    match find_place(opens, place) {
+        Some(i) => {
+            let _ = opens.remove(i);
+        }
+        None => {}
+    }
+}
+
+/// Gives the cell at `place` another body.
+fn set_body(cells: &mut [Cell], place: usize, body: Body)
+    requires { place < length cells.old }
+    ensures { cells.new ≡ slice_set cells.old place (record { id = (cell_at cells.old place).id; body = body }) }
+{
+    cells[place].body = body;
+}
+
+/// Makes the cells at these places no-ops, which are the open ones.
+fn close_cells(cells: &mut [Cell], opens: &[u32])
+    requires { opens.now ≡ open_from 0 cells.old }
+    ensures { IsClosing cells.old cells.new [] }
+{
+    for place in opens {
+        set_body(cells, *place as usize, Body::Noop);
+    }
+}
+
+/// Gives the kept data of the cells of `[from, to)` up.
+fn give_up_cells(cells: &mut [Cell], from: usize, to: usize)
+    requires range { (from ≤ to) × (to ≤ length cells.old) }
+    ensures { IsGivenUp from to cells.old cells.new }
+{
+    for place in from..to {
+        if is_of(Kind::Kept, &cells[place].body) {
+            set_body(cells, place, Body::Gone);
+        }
     }
 }
