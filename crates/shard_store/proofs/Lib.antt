@@ -5,3 +5,6 @@ pub mod Positions
 pub mod Identities
 pub mod Holdings
 pub mod Closing
+pub mod Searches
+pub mod Extending
+pub mod Keeping

@@ -39,6 +39,10 @@ impl Held {
         }
     }
 
+    pub(crate) fn allocator(&self) -> Global {
+        *self.records.allocator()
+    }
+
     /// Where the record stands.
     fn find(&self, id: RecordId) -> Option<usize>
         ensures { result ≡ position (λ one. same_id one.0 id) self.now.records }

@@ -6,8 +6,14 @@
 //! identity stands beside the order, so that no search looks at the whole of it.
 #![tactic(auto)]
 
+mod drafts;
+mod entries;
 mod held;
 mod kinds;
 mod links;
 mod order;
+mod searching;
 mod settling;
+mod store;
+
+pub use store::ShardStore;

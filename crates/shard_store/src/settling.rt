@@ -1,13 +1,14 @@
 //! Cells that come behind the order, with the data that was held for them.
 
-ghost use Rattle.std.specs.Prelude.{◌≡◌, ◌-◌, ◌≤◌, ◌<◌, ◌++◌, [], ◌∷◌, length, Option, option_map};
+ghost use Rattle.std.specs.Prelude.{◌≡◌, ◌-◌, ◌≤◌, ◌<◌, ◌++◌, [], ◌∷◌, length, Option, option_map, IfOk};
 ghost use Rattle.lazy_rules.specs.Store.{bytes_in, filled_or_open};
 ghost use Rattle.shard_store.specs.Settling.{settled, settled_all, held_after, held_beside_all};
 
 use crate::held::Held;
 use crate::kinds::{Kind, is_of};
 use crate::order::Order;
-use rec_id::{Body, Bytes, Cell};
+use rec_id::{Body, Bytes, Cell, CellList};
+use std::alloc::{AllocError, Global};
 use std::collections::VecDeque;
 
 /// A body with this data, or open.
@@ -98,4 +99,15 @@ pub(crate) fn append_all(order: &mut Order, held: &mut Held, cells: VecDeque<Cel
         drop_held(held, &cell);
         order.push(cell);
     }
+}
+
+/// Equal cells.
+pub(crate) fn copy_all(alloc: Global, cells: &CellList) -> Result<VecDeque<Cell>, AllocError>
+    ensures { IfOk result (λ made. made.items ≡ cells.now) }
+{
+    let mut made = Vec::with_capacity(alloc, cells.len())?;
+    for i in 0..cells.len() {
+        made.push(cells.at(i).copy()?)?;
+    }
+    Ok(VecDeque::from_vec(made))
 }

@@ -1,0 +1,82 @@
+-- An order that items or cells extend.
+use Rattle.std.proofs.Common.{◌≡◌, ℕ, suc, ◌+◌, ◌<◌, ◌≤◌, List, [], ◌∷◌, ◌++◌, Bool, true, false, cond, Option, Some, None, length, get_or, take, subst, sym, ap, ◌∙◌, refl, arith}
+use Rattle.std.specs.Option.{option_or}
+use Rattle.std.proofs.lemmas.List.{append_assoc, append-nil, length_push, length-append, take_more, length-take-le}
+use Rattle.rec_id.specs.Identity.{Identity}
+use Rattle.rec_id.specs.declared.item.Body.{Body}
+use Rattle.rec_id.specs.declared.item.Body.TheVariants.{Elsewhere, Kept, Noop, Open, Gone}
+use Rattle.rec_id.specs.declared.item.Cell.{Cell}
+use Rattle.rec_id.specs.declared.item.Item.{Item}
+use Rattle.view_config.specs.declared.edition.Mode.{Mode}
+use Rattle.view_config.specs.declared.edition.Mode.TheVariants.{M, St}
+use Rattle.lazy_rules.specs.Store.{Store, is_own, is_own_by, body_for, cell_for, with_cell, extend, extend_cells, filled_or_open, held_bytes, held_beside}
+use Rattle.shard_store.specs.Settling.{owns, drafted, drafts, settled, settled_body, settled_all, held_after, held_beside_all}
+
+abbrev pub Pairs : Type 0
+Pairs = List (Identity × List ℕ)
+
+-- ---- drafts
+length-drafts : (mode : Mode) (shard shards place : ℕ) (items : List Item) → length (drafts mode shard shards place items) ≡ length items
+length-drafts mode shard shards place [] = refl
+length-drafts mode shard shards place (item ∷ items) = ap suc (length-drafts mode shard shards (place + 1) items)
+
+pub count_drafts : (mode : Mode) (shard shards place : ℕ) (items : List Item) (cells : List Cell) → cells ≡ drafts mode shard shards place items → length cells ≡ length items
+count_drafts mode shard shards place items cells is = ap length is ∙ length-drafts mode shard shards place items
+
+drafts_push : (mode : Mode) (shard shards place : ℕ) (items : List Item) (item : Item)
+    → drafts mode shard shards place (items ++ item ∷ []) ≡ drafts mode shard shards place items ++ drafted mode shard shards (place + length items) item ∷ []
+drafts_push mode shard shards place [] item = ap (λ (n : ℕ). drafted mode shard shards n item ∷ []) (omega arith)
+drafts_push mode shard shards place (x ∷ xs) item =
+    ap (λ (l : List Cell). drafted mode shard shards place x ∷ l)
+    (drafts_push mode shard shards (place + 1) xs item
+    ∙ ap (λ (n : ℕ). drafts mode shard shards (place + 1) xs ++ drafted mode shard shards n item ∷ []) (omega arith))
+
+pub drafts_more : (mode : Mode) (shard shards place : ℕ) (items : List Item) (i : ℕ) (item : Item) → i < length items → get_or items i item ≡ item
+    → drafts mode shard shards place (take (i + 1) items) ≡ drafts mode shard shards place (take i items) ++ drafted mode shard shards (place + i) item ∷ []
+drafts_more mode shard shards place items i item inside read =
+    let count : length (take i items) ≡ i = length-take-le i items (omega arith) in
+    ap (drafts mode shard shards place) (take_more items i item inside ∙ ap (λ (x : Item). take i items ++ x ∷ []) read)
+    ∙ drafts_push mode shard shards place (take i items) item
+    ∙ ap (λ (n : ℕ). drafts mode shard shards place (take i items) ++ drafted mode shard shards (place + n) item ∷ []) count
+
+-- ---- one item
+own_same : (mode : Mode) (store : Store) (place : ℕ) (id : Identity) → is_own_by mode store place id ≡ owns mode store.shard store.shards place id
+own_same M store place id = refl
+own_same St store place id = refl
+
+drawn : (b : Bool) (bytes : Option (List ℕ)) (held : Pairs) (id : Identity)
+    → cond b (filled_or_open (option_or bytes (held_bytes held id))) Elsewhere ≡ settled_body held id (cond b (filled_or_open bytes) Elsewhere)
+drawn false bytes held id = refl
+drawn true None held id = refl
+drawn true (Some data_) held id = refl
+
+cell_is : (store : Store) (item : Item) → cell_for store item ≡ settled store.held (drafted store.mode store.shard store.shards (length store.order) item)
+cell_is store item =
+    ap (λ (body : Body). let made : Cell = record { id = item.id; body = body } in made)
+    (ap (λ (b : Bool). cond b (filled_or_open (option_or item.bytes (held_bytes store.held item.id))) Elsewhere) (own_same store.mode store (length store.order) item.id)
+    ∙ drawn (owns store.mode store.shard store.shards (length store.order) item.id) item.bytes store.held item.id)
+
+-- ---- all items
+abbrev pub grown : Store → List Cell → Pairs → Store
+grown store cells held = record store { order = cells; held = held }
+
+pub extend_is : (store : Store) (items : List Item)
+    → extend store items ≡ grown store (store.order ++ settled_all store.held (drafts store.mode store.shard store.shards (length store.order) items))
+    (held_beside_all store.held (settled_all store.held (drafts store.mode store.shard store.shards (length store.order) items)))
+extend_is store [] = ap (λ (l : List Cell). grown store l store.held) (sym (append-nil store.order))
+extend_is store (item ∷ items) =
+    let draft = drafted store.mode store.shard store.shards (length store.order) item in
+    let cell = settled store.held draft in
+    let next = with_cell store cell in
+    let later = drafts store.mode store.shard store.shards (length store.order + 1) items in
+    let there = ap (λ (n : ℕ). drafts store.mode store.shard store.shards n items) (length_push store.order cell) in
+    ap (λ (c : Cell). extend (with_cell store c) items) (cell_is store item)
+    ∙ extend_is next items
+    ∙ ap (λ (l : List Cell). grown store ((store.order ++ cell ∷ []) ++ settled_all (held_after store.held cell) l) (held_beside_all (held_after store.held cell) (settled_all (held_after store.held cell) l))) there
+    ∙ ap (λ (l : List Cell). grown store l (held_beside_all (held_after store.held cell) (settled_all (held_after store.held cell) later))) (append_assoc store.order (cell ∷ []) (settled_all (held_after store.held cell) later))
+
+pub extend_cells_is : (store : Store) (cells : List Cell) → extend_cells store cells ≡ grown store (store.order ++ cells) (held_beside_all store.held cells)
+extend_cells_is store [] = ap (λ (l : List Cell). grown store l store.held) (sym (append-nil store.order))
+extend_cells_is store (cell ∷ cells) =
+    extend_cells_is (with_cell store cell) cells
+    ∙ ap (λ (l : List Cell). grown store l (held_beside_all (held_after store.held cell) cells)) (append_assoc store.order (cell ∷ []) cells)
