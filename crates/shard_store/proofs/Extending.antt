@@ -1,5 +1,5 @@
 -- An order that items or cells extend.
-use Rattle.std.proofs.Common.{◌≡◌, ℕ, suc, ◌+◌, ◌<◌, ◌≤◌, List, [], ◌∷◌, ◌++◌, Bool, true, false, cond, Option, Some, None, length, get_or, take, subst, sym, ap, ◌∙◌, refl, arith}
+use Rattle.std.proofs.Common.{◌≡◌, ℕ, suc, ◌+◌, ◌<◌, ◌≤◌, List, [], ◌∷◌, ◌++◌, Bool, true, false, cond, Option, Some, None, length, get_or, take, drop, subst, sym, ap, ◌∙◌, refl, arith}
 use Rattle.std.specs.Option.{option_or}
 use Rattle.std.proofs.lemmas.List.{append_assoc, append-nil, length_push, length-append, take_more, length-take-le}
 use Rattle.rec_id.specs.Identity.{Identity}
@@ -9,8 +9,8 @@ use Rattle.rec_id.specs.declared.item.Cell.{Cell}
 use Rattle.rec_id.specs.declared.item.Item.{Item}
 use Rattle.view_config.specs.declared.edition.Mode.{Mode}
 use Rattle.view_config.specs.declared.edition.Mode.TheVariants.{M, St}
-use Rattle.lazy_rules.specs.Store.{Store, is_own, is_own_by, body_for, cell_for, with_cell, extend, extend_cells, filled_or_open, held_bytes, held_beside}
-use Rattle.shard_store.specs.Settling.{owns, drafted, drafts, settled, settled_body, settled_all, held_after, held_beside_all}
+use Rattle.lazy_rules.specs.Store.{Store, is_own, is_own_by, body_for, cell_for, with_cell, extend, extend_cells, filled_or_open, held_bytes, held_beside, has, hold, hold_again, hold_cells, bytes_in, give_back, cut, recut, recut_cells}
+use Rattle.shard_store.specs.Settling.{owns, drafted, drafts, settled, settled_body, settled_all, held_after, held_beside_all, has_in, held_again, held_again_all, given_back}
 
 abbrev pub Pairs : Type 0
 Pairs = List (Identity × List ℕ)
@@ -80,3 +80,44 @@ extend_cells_is store [] = ap (λ (l : List Cell). grown store l store.held) (sy
 extend_cells_is store (cell ∷ cells) =
     extend_cells_is (with_cell store cell) cells
     ∙ ap (λ (l : List Cell). grown store l (held_beside_all (held_after store.held cell) cells)) (append_assoc store.order (cell ∷ []) cells)
+
+-- ---- a cut, and what comes after it
+hold_cells_is : (store : Store) (cells : List Cell) → hold_cells store cells ≡ grown store store.order (held_again_all store.order store.held cells)
+hold_cells_is store [] = refl
+hold_cells_is store (cell ∷ cells) = by_bytes (λ held. hold_cells_is (record store { held = held }) cells) (bytes_in cell.body)
+  where
+    by_has : ((held : Pairs) → hold_cells (record store { held = held }) cells ≡ grown store store.order (held_again_all store.order held cells)) → (b : Bool) (bytes : List ℕ)
+        → hold_cells (cond b store (record store { held = store.held ++ (cell.id, bytes) ∷ [] })) cells
+        ≡ grown store store.order (held_again_all store.order (cond b store.held (store.held ++ (cell.id, bytes) ∷ [])) cells)
+    by_has rest true bytes = rest store.held
+    by_has rest false bytes = rest (store.held ++ (cell.id, bytes) ∷ [])
+    by_bytes : ((held : Pairs) → hold_cells (record store { held = held }) cells ≡ grown store store.order (held_again_all store.order held cells)) → (bytes : Option (List ℕ))
+        → hold_cells (hold_again store cell.id bytes) cells ≡ grown store store.order (held_again_all store.order (held_again store.order store.held cell.id bytes) cells)
+    by_bytes rest None = rest store.held
+    by_bytes rest (Some bytes) = by_has rest (has store cell.id) bytes
+
+pub cut_is : (store : Store) (from : ℕ) → cut store from ≡ grown store (take from store.order) (given_back store.mode (take from store.order) store.held (drop from store.order))
+cut_is store from = by_mode store.mode
+  where
+    by_mode : (mode : Mode) → give_back mode (record store { order = take from store.order }) (drop from store.order)
+        ≡ grown store (take from store.order) (given_back mode (take from store.order) store.held (drop from store.order))
+    by_mode M = refl
+    by_mode St = hold_cells_is (record store { order = take from store.order }) (drop from store.order)
+
+pub recut_is : (store : Store) (from : ℕ) (items : List Item) → from ≤ length store.order
+    → (let front = take from store.order in let held = given_back store.mode front store.held (drop from store.order) in let all = drafts store.mode store.shard store.shards from items in
+    recut store from items ≡ grown store (front ++ settled_all held all) (held_beside_all held (settled_all held all)))
+recut_is store from items inside =
+    let front = take from store.order in
+    let held = given_back store.mode front store.held (drop from store.order) in
+    ap (λ (s : Store). extend s items) (cut_is store from)
+    ∙ extend_is (grown store front held) items
+    ∙ ap (λ (n : ℕ). grown store (front ++ settled_all held (drafts store.mode store.shard store.shards n items)) (held_beside_all held (settled_all held (drafts store.mode store.shard store.shards n items)))) (length-take-le from store.order inside)
+
+pub recut_cells_is : (store : Store) (from : ℕ) (cells : List Cell)
+    → (let front = take from store.order in let held = given_back store.mode front store.held (drop from store.order) in
+    recut_cells store from cells ≡ grown store (front ++ cells) (held_beside_all held cells))
+recut_cells_is store from cells =
+    let front = take from store.order in
+    let held = given_back store.mode front store.held (drop from store.order) in
+    ap (λ (s : Store). extend_cells s cells) (cut_is store from) ∙ extend_cells_is (grown store front held) cells

@@ -38,10 +38,10 @@ tag_last : (size : ℕ) (xs : List Cell) (cell : Cell) → tag_in size (xs ++ ce
 tag_last size xs cell = ap (λ (x : Cell). bucket size x.id) (get_or_push xs cell blank (length xs) refl)
 
 module _ (cells : List Cell) (heads before opens : List ℕ) (spare cell_room before_room open_room : ℕ) where
-  pub indexed_push : IsIndexed cells heads before opens spare cell_room before_room open_room → (cell : Cell) → 0 < spare → bucket (length heads) cell.id < length heads
+  pub indexed_push : IsIndexed cells heads before opens spare cell_room before_room open_room → (cell : Cell) → 0 < spare → length cells + 1 < 2 ^ 32 → bucket (length heads) cell.id < length heads
       → IsIndexed (cells ++ cell ∷ []) (set heads (bucket (length heads) cell.id) (length cells + 1)) (before ++ get_or heads (bucket (length heads) cell.id) 0 ∷ [])
       (opens ++ open_from (length cells) (cell ∷ [])) (spare - 1) cell_room before_room open_room
-  indexed_push indexed cell some inside =
+  indexed_push indexed cell some short inside =
       let size = length heads in
       let at = bucket size cell.id in
       let after = before ++ get_or heads at 0 ∷ [] in
@@ -60,7 +60,7 @@ module _ (cells : List Cell) (heads before opens : List ℕ) (spare cell_room be
         linked = subst (λ (n : ℕ). IsLinked (tag_in n (cells ++ cell ∷ [])) (set heads at (length cells + 1)) after (length (cells ++ cell ∷ []))) (sym heads_len) counted;
         before_len = omega (arith, length_push cells cell, length_push before (get_or heads at 0), indexed.before_len);
         open_is = ap (λ (l : List ℕ). l ++ open_from (length cells) (cell ∷ [])) indexed.open_is ∙ sym (open_from_push cells cell);
-        short = omega (arith, length_push cells cell, indexed.short);
+        short = omega (arith, length_push cells cell, short);
         bucket_room = omega (arith, length_push cells cell, indexed.bucket_room, heads_len);
         cell_room_is = omega (arith, length_push cells cell, indexed.cell_room_is);
         before_room_is = omega (arith, length_push cells cell, indexed.before_room_is);

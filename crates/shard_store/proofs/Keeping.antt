@@ -13,6 +13,7 @@ use Rattle.shard_store.specs.Kinds.{is_kept}
 use Rattle.shard_store.specs.Links.{blank, cell_at}
 use Rattle.shard_store.specs.Places.{IsGivenUp}
 use Rattle.shard_store.specs.Sound.{IsSound}
+use Rattle.shard_store.proofs.Extending.{Pairs, grown}
 
 -- ---- all open cells become no-ops
 open_closed : (body : Body) → is_open (closed body) ≡ false
@@ -115,3 +116,19 @@ trim_none store to sound low =
     let top : max store.floor to ≡ store.floor = omega arith in
     ap (λ (l : List Cell). with_trim store l store.floor) (trimmed store.floor store.floor store.order store.order (omega arith) (omega (arith, sound.stable_is, sound.floor_is)) sound.given_up (nothing_given_up store.floor store.order))
     ∙ ap (λ (n : ℕ). with_trim store (map given_up_cell (take n store.order) ++ drop n store.order) n) (sym top)
+
+-- ---- another order from a place on that isn't final
+pub sound_recut : (store : Store) (from : ℕ) (rest : List Cell) (held : Pairs) → IsSound store → store.stable ≤ from → from ≤ length store.order
+    → IsSound (grown store (take from store.order ++ rest) held)
+sound_recut store from rest held sound above inside = record {
+  shard_is = sound.shard_is;
+  floor_is = sound.floor_is;
+  stable_is = omega (arith, length-append (take from store.order) rest, count);
+  closed = λ k below. ap (λ (c : Cell). is_open c.body) (same k (omega arith)) ∙ sound.closed k below;
+  given_up = λ k below. ap (λ (c : Cell). is_kept c.body) (same k (omega (arith, sound.floor_is))) ∙ sound.given_up k below;
+}
+  where
+    count : length (take from store.order) ≡ from
+    count = length-take-le from store.order inside
+    same : (k : ℕ) → k < from → get_or (take from store.order ++ rest) k blank ≡ get_or store.order k blank
+    same k below = get_or_append_left (take from store.order) rest blank k (omega (arith, count)) ∙ get_or-take from store.order k blank below

@@ -8,3 +8,4 @@ pub mod Closing
 pub mod Searches
 pub mod Extending
 pub mod Keeping
+pub mod Fronts

@@ -19,7 +19,7 @@ pub record IsIndexed (cells : List Cell) (heads before opens : List ℕ) (spare 
   pub linked : IsLinked (tag_in (length heads) cells) heads before (length cells)
   pub before_len : length before ≡ length cells
   pub open_is : opens ≡ open_from 0 cells
-  pub short : length cells + spare < 2 ^ 32
+  pub short : length cells < 2 ^ 32
   pub bucket_room : length cells + spare ≤ length heads
   pub cell_room_is : length cells + spare ≤ cell_room
   pub before_room_is : length cells + spare ≤ before_room

@@ -60,3 +60,12 @@ held_again cells held id (Some bytes) = if has_in cells held id then held else h
 abbrev pub held_again_all : List Cell → List (Identity × List ℕ) → List Cell → List (Identity × List ℕ)
 held_again_all cells held [] = held
 held_again_all cells held (cell ∷ others) = held_again_all cells (held_again cells held cell.id (bytes_in cell.body)) others
+
+-- what a cut gives back: only where data came by itself
+abbrev pub given_back : Mode → List Cell → List (Identity × List ℕ) → List Cell → List (Identity × List ℕ)
+given_back M cells held tail = held
+given_back St cells held tail = held_again_all cells held tail
+
+abbrev pub cut_count : Mode → ℕ → ℕ
+cut_count M count = 0
+cut_count St count = count

@@ -6,6 +6,7 @@
 //! identity stands beside the order, so that no search looks at the whole of it.
 #![tactic(auto)]
 
+mod cutting;
 mod drafts;
 mod entries;
 mod held;

@@ -54,7 +54,7 @@ impl Order {
 
     pub(crate) fn len(&self) -> u32
         ensures len { result ≡ length self.now.cells }
-        ensures short { length self.now.cells + self.now.spare < 2 ^ 32 }
+        ensures short { length self.now.cells < 2 ^ 32 }
     {
         self.cells.len() as u32
     }
@@ -96,7 +96,7 @@ impl Order {
 
     /// Makes room for so many cells more.
     pub(crate) fn reserve(&mut self, more: usize) -> Result<(), AllocError>
-        requires { length self.old.cells + more < 2 ^ 32 }
+        requires { more < 2 ^ 32 }
         ensures cells { self.new.cells ≡ self.old.cells }
         ensures room { OnOk result (more ≤ self.new.spare) }
     {
@@ -114,7 +114,8 @@ impl Order {
 
     /// Appends `cell`.
     pub(crate) fn push(&mut self, cell: Cell)
-        requires { 0 < self.old.spare }
+        requires room { 0 < self.old.spare }
+        requires short { length self.old.cells + 1 < 2 ^ 32 }
         ensures { self.new ≡ record { cells = self.old.cells ++ cell ∷ []; spare = self.old.spare - 1 } }
     {
         let place = self.cells.len() as u32;

@@ -1,6 +1,6 @@
 //! Cells that come behind the order, with the data that was held for them.
 
-ghost use Rattle.std.specs.Prelude.{◌≡◌, ◌-◌, ◌≤◌, ◌<◌, ◌++◌, [], ◌∷◌, length, Option, option_map, IfOk};
+ghost use Rattle.std.specs.Prelude.{◌≡◌, ◌+◌, ◌-◌, ◌^◌, ◌≤◌, ◌<◌, ◌++◌, [], ◌∷◌, length, Option, option_map, IfOk};
 ghost use Rattle.lazy_rules.specs.Store.{bytes_in, filled_or_open};
 ghost use Rattle.shard_store.specs.Settling.{settled, settled_all, held_after, held_beside_all};
 
@@ -69,7 +69,8 @@ pub(crate) fn settle(held: &mut Held, cell: Cell) -> Cell
 
 /// Settles drafts in turn, and appends them.
 pub(crate) fn settle_all(order: &mut Order, held: &mut Held, drafts: VecDeque<Cell>)
-    requires { length drafts.items ≤ order.old.spare }
+    requires room { length drafts.items ≤ order.old.spare }
+    requires short { length order.old.cells + length drafts.items < 2 ^ 32 }
     ensures cells { order.new.cells ≡ order.old.cells ++ settled_all held.old.records drafts.items }
     ensures held { held.new.records ≡ held_beside_all held.old.records (settled_all held.old.records drafts.items) }
 {
@@ -90,7 +91,8 @@ fn drop_held(held: &mut Held, cell: &Cell)
 
 /// Appends cells as they are, and drops what is held for kept ones.
 pub(crate) fn append_all(order: &mut Order, held: &mut Held, cells: VecDeque<Cell>)
-    requires { length cells.items ≤ order.old.spare }
+    requires room { length cells.items ≤ order.old.spare }
+    requires short { length order.old.cells + length cells.items < 2 ^ 32 }
     ensures cells { order.new.cells ≡ order.old.cells ++ cells.items }
     ensures held { held.new.records ≡ held_beside_all held.old.records cells.items }
 {

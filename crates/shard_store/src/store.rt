@@ -1,9 +1,10 @@
 //! The store of a shard replica.
 
 ghost use Rattle.std.specs.Prelude.{◌≡◌, ◌+◌, ◌^◌, ◌<◌, ◌≤◌, [], Some, true, false, length, slice_get, IfOk, IfSome, OnOk, OnErr, option_map, IsTrue};
-ghost use Rattle.lazy_rules.specs.Store.{new_store, has, noop_at, open_at, first_open, has_open, has_open_below, bytes_of, hold, extend, extend_cells, fill, open_to_noop, open_count, raise_stable, part, trim};
+ghost use Rattle.lazy_rules.specs.Store.{new_store, has, noop_at, open_at, first_open, has_open, has_open_below, bytes_of, hold, extend, extend_cells, fill, open_to_noop, open_count, raise_stable, part, trim, cut, recut, recut_cells};
 ghost use Rattle.shard_store.specs.Sound.{IsSound, is_open_at};
 
+use crate::cutting::{cut_off, make_room};
 use crate::drafts::draft_all;
 use crate::entries::{entry_in, push_entry};
 use crate::held::Held;
@@ -230,5 +231,46 @@ impl ShardStore {
         }
         self.order.give_up(self.floor, to);
         self.floor = to;
+    }
+
+    /// Cuts the order off at `from`. In Erwin-st the data of the cells that go is held again.
+    pub fn cut(&mut self, from: u32) -> Result<(), AllocError>
+        requires { (self.old.stable ≤ from) × (from ≤ length self.old.order) }
+        ensures ok { OnOk result (self.new ≡ cut self.old from) }
+        ensures err { OnErr result (self.new ≡ self.old) }
+    {
+        let mut tail = make_room(&self.order, &mut self.held, self.mode, from)?;
+        cut_off(&mut self.order, &mut self.held, self.mode, from, &mut tail);
+        Ok(())
+    }
+
+    /// Cuts the order off at `from`, and extends it by items, or does neither.
+    pub fn recut(&mut self, from: u32, items: &ItemList) -> Result<(), AllocError>
+        requires cut { (self.old.stable ≤ from) × (from ≤ length self.old.order) }
+        requires short { from + length items.now < 2 ^ 32 }
+        ensures ok { OnOk result (self.new ≡ recut self.old from items.now) }
+        ensures err { OnErr result (self.new ≡ self.old) }
+    {
+        let drafts = draft_all(self.held.allocator(), self.mode, self.shard, self.shards, from, items)?;
+        self.order.reserve(items.len())?;
+        let mut tail = make_room(&self.order, &mut self.held, self.mode, from)?;
+        cut_off(&mut self.order, &mut self.held, self.mode, from, &mut tail);
+        settle_all(&mut self.order, &mut self.held, drafts);
+        Ok(())
+    }
+
+    /// Cuts the order off at `from`, and extends it by cells, or does neither.
+    pub fn recut_cells(&mut self, from: u32, cells: &CellList) -> Result<(), AllocError>
+        requires cut { (self.old.stable ≤ from) × (from ≤ length self.old.order) }
+        requires short { from + length cells.now < 2 ^ 32 }
+        ensures ok { OnOk result (self.new ≡ recut_cells self.old from cells.now) }
+        ensures err { OnErr result (self.new ≡ self.old) }
+    {
+        let copies = copy_all(self.held.allocator(), cells)?;
+        self.order.reserve(cells.len())?;
+        let mut tail = make_room(&self.order, &mut self.held, self.mode, from)?;
+        cut_off(&mut self.order, &mut self.held, self.mode, from, &mut tail);
+        append_all(&mut self.order, &mut self.held, copies);
+        Ok(())
     }
 }

@@ -7,7 +7,7 @@ use Rattle.shard_store.proofs.store.ShardStore.extend.Goals as goal
 
 pub settle_all-requires : goal.settle_all-requires
 settle_all-requires c =
-    omega (arith, count_drafts _ _ _ _ _ _ c.in_ok-drafts.ensures, c.in_ok-reserve.ensures.room)
+    omega (arith, count_drafts _ _ _ _ _ _ c.in_ok-drafts.ensures, c.in_ok-reserve.ensures.room, ap (λ (l : List Cell). length l) c.in_ok-reserve.ensures.cells, c.requires, ap (λ (s : Store). length s.order) c.self.view_is)
 
 pub returns-clause-ok : goal.returns-clause-ok
 returns-clause-ok c =
