@@ -76,8 +76,10 @@ closed_one n (x ∷ xs) (suc k) cell inside opened shut = by_test (is_open x.bod
   where
     other : eqb n (n + suc k) ≡ false
     other = ne_eqb n (n + suc k) (λ same. absurd (omega arith))
+
     later : n + 1 + k ≡ n + suc k
     later = omega arith
+
     by_test : (b : Bool) → open_from (n + 1) (set xs k cell) ≡ remove (open_from (n + 1) xs) (position_or_len (λ (other : ℕ). eqb other (n + 1 + k)) (open_from (n + 1) xs))
         → cond b (n ∷ open_from (n + 1) (set xs k cell)) (open_from (n + 1) (set xs k cell))
         ≡ remove (cond b (n ∷ open_from (n + 1) xs) (open_from (n + 1) xs)) (position_or_len (λ (other : ℕ). eqb other (n + suc k)) (cond b (n ∷ open_from (n + 1) xs) (open_from (n + 1) xs)))
@@ -242,22 +244,26 @@ module _ (cells : List Cell) (heads before opens : List ℕ) (spare cell_room be
           | inr past ↦ inl (given.above k past)
         ]
       ]
+
       same_id : (k : ℕ) → (get_or now k blank).id ≡ (get_or cells k blank).id
       same_id k = elim (at k) [
         | inl same ↦ ap (λ (c : Cell). c.id) same
         | inr gone ↦ ap (λ (c : Cell). c.id) gone
       ]
+
       open_given : (body : Body) → is_open (given_up body) ≡ is_open body
       open_given Elsewhere = refl
       open_given (Kept bytes) = refl
       open_given Noop = refl
       open_given Open = refl
       open_given Gone = refl
+
       same_open : (k : ℕ) → is_open (get_or cells k blank).body ≡ is_open (get_or now k blank).body
       same_open k = elim (at k) [
         | inl same ↦ ap (λ (c : Cell). is_open c.body) (sym same)
         | inr gone ↦ sym (ap (λ (c : Cell). is_open c.body) gone ∙ open_given (get_or cells k blank).body)
       ]
+
       same_opens : (n : ℕ) (xs ys : List Cell) → length ys ≡ length xs → ((k : ℕ) → is_open (get_or xs k blank).body ≡ is_open (get_or ys k blank).body) → open_from n xs ≡ open_from n ys
       same_opens n [] [] count same = refl
       same_opens n [] (y ∷ ys) count same = absurd (omega arith)

@@ -91,6 +91,7 @@ hold_cells_is store (cell ∷ cells) = by_bytes (λ held. hold_cells_is (record 
         ≡ grown store store.order (held_again_all store.order (cond b store.held (store.held ++ (cell.id, bytes) ∷ [])) cells)
     by_has rest true bytes = rest store.held
     by_has rest false bytes = rest (store.held ++ (cell.id, bytes) ∷ [])
+
     by_bytes : ((held : Pairs) → hold_cells (record store { held = held }) cells ≡ grown store store.order (held_again_all store.order held cells)) → (bytes : Option (List ℕ))
         → hold_cells (hold_again store cell.id bytes) cells ≡ grown store store.order (held_again_all store.order (held_again store.order store.held cell.id bytes) cells)
     by_bytes rest None = rest store.held

@@ -44,11 +44,15 @@ module _ (size : ℕ) (kind : Kind) (id : Identity) (cells : List Cell) where
     | inl early ↦ fails k past early
     | inr late ↦ first k late inside
   ]
-  lower from n (Some place) below fails first =
-      (omega (arith, first.0), first.1, first.2, λ k past early. elim (cases_lt k n) [
-        | inl before ↦ fails k past before
-        | inr late ↦ first.3 k late early
-      ])
+  lower from n (Some place) below fails first = (
+    omega (arith, first.0),
+    first.1,
+    first.2,
+    λ k past early. elim (cases_lt k n) [
+      | inl before ↦ fails k past before
+      | inr late ↦ first.3 k late early
+    ],
+  )
 
   -- what was found from n on is what was found from the last place below n in the bucket on
   pub step : (n : ℕ) (found : Option ℕ) → n ≤ length cells → FirstFrom test cells n found

@@ -130,5 +130,6 @@ sound_recut store from rest held sound above inside = record {
   where
     count : length (take from store.order) ≡ from
     count = length-take-le from store.order inside
+
     same : (k : ℕ) → k < from → get_or (take from store.order ++ rest) k blank ≡ get_or store.order k blank
     same k below = get_or_append_left (take from store.order) rest blank k (omega (arith, count)) ∙ get_or-take from store.order k blank below

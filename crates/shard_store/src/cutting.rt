@@ -24,7 +24,12 @@ fn cut_count(mode: Mode, count: u32) -> usize
 }
 
 /// Room for the cells from place `from` on, and for their data as held data.
-pub(crate) fn make_room(order: &Order, held: &mut Held, mode: Mode, from: u32) -> Result<VecDeque<Cell>, AllocError>
+pub(crate) fn make_room(
+    order: &Order,
+    held: &mut Held,
+    mode: Mode,
+    from: u32,
+) -> Result<VecDeque<Cell>, AllocError>
     requires { from ≤ length order.now.cells }
     ensures records { held.new.records ≡ held.old.records }
     ensures held_room { OnOk result (cut_count mode (length order.now.cells - from) ≤ held.new.spare) }
@@ -100,7 +105,13 @@ fn hold_cells(order: &Order, held: &mut Held, cells: &mut VecDeque<Cell>)
 }
 
 /// Cuts the order off from place `from` on, with the room that was made for it.
-pub(crate) fn cut_off(order: &mut Order, held: &mut Held, mode: Mode, from: u32, tail: &mut VecDeque<Cell>)
+pub(crate) fn cut_off(
+    order: &mut Order,
+    held: &mut Held,
+    mode: Mode,
+    from: u32,
+    tail: &mut VecDeque<Cell>,
+)
     requires from { from ≤ length order.old.cells }
     requires held_room { cut_count mode (length order.old.cells - from) ≤ held.old.spare }
     requires empty { tail.old.items ≡ [] }

@@ -37,7 +37,14 @@ fn draft(mode: Mode, shard: u32, shards: u32, place: u32, item: &Item) -> Result
 }
 
 /// Drafts of the items from place `from` on.
-pub(crate) fn draft_all(alloc: Global, mode: Mode, shard: u32, shards: u32, from: u32, items: &ItemList) -> Result<VecDeque<Cell>, AllocError>
+pub(crate) fn draft_all(
+    alloc: Global,
+    mode: Mode,
+    shard: u32,
+    shards: u32,
+    from: u32,
+    items: &ItemList,
+) -> Result<VecDeque<Cell>, AllocError>
     requires shard { shard < shards }
     requires short { from + length items.now < 2 ^ 32 }
     ensures { IfOk result (λ made. made.items ≡ drafts mode shard shards from items.now) }

@@ -20,7 +20,11 @@ pub(crate) fn entry_in(cell: &Cell) -> Result<Option<Entry>, AllocError>
 }
 
 /// Appends the entry with its place, if there is one.
-pub(crate) fn push_entry(made: &mut PlacedList, place: u32, entry: Option<Entry>) -> Result<(), AllocError>
+pub(crate) fn push_entry(
+    made: &mut PlacedList,
+    place: u32,
+    entry: Option<Entry>,
+) -> Result<(), AllocError>
     ensures { OnOk result (made.new ≡ made.old ++ placed_entry place entry) }
 {
     match entry {

@@ -18,3 +18,6 @@ mod settling;
 mod store;
 
 pub use store::ShardStore;
+
+#[cfg(test)]
+mod tests;

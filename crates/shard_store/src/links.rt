@@ -36,7 +36,12 @@ pub(crate) fn link_all(cells: &[Cell], heads: &mut [u32], before: &mut [u32])
 
 /// Makes at least so many buckets, and links all cells anew where there were fewer. Each time there
 /// are twice as many, so that a cell is linked a few times in all.
-pub(crate) fn make_buckets(cells: &[Cell], heads: &mut Vec<u32>, before: &mut [u32], needed: usize) -> Result<(), AllocError>
+pub(crate) fn make_buckets(
+    cells: &[Cell],
+    heads: &mut Vec<u32>,
+    before: &mut [u32],
+    needed: usize,
+) -> Result<(), AllocError>
     requires before { length before.old ≡ length cells.now }
     requires short { length cells.now < 2 ^ 32 }
     requires linked { IsLinked (tag_in (length heads.old.items) cells.now) heads.old.items before.old (length cells.now) }

@@ -67,7 +67,6 @@ impl Order {
         &self.cells[place as usize]
     }
 
-
     /// The first place of a cell of this record and kind.
     pub(crate) fn first(&self, kind: Kind, id: RecordId) -> Option<u32>
         ensures { result ≡ position (is_cell_of (is_of kind) id) self.now.cells }

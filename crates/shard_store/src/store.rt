@@ -165,7 +165,14 @@ impl ShardStore {
         ensures err { OnErr result (self.new ≡ self.old) }
     {
         let from = self.order.len();
-        let drafts = draft_all(self.held.allocator(), self.mode, self.shard, self.shards, from, items)?;
+        let drafts = draft_all(
+            self.held.allocator(),
+            self.mode,
+            self.shard,
+            self.shards,
+            from,
+            items,
+        )?;
         self.order.reserve(items.len())?;
         settle_all(&mut self.order, &mut self.held, drafts);
         Ok(())
@@ -251,7 +258,14 @@ impl ShardStore {
         ensures ok { OnOk result (self.new ≡ recut self.old from items.now) }
         ensures err { OnErr result (self.new ≡ self.old) }
     {
-        let drafts = draft_all(self.held.allocator(), self.mode, self.shard, self.shards, from, items)?;
+        let drafts = draft_all(
+            self.held.allocator(),
+            self.mode,
+            self.shard,
+            self.shards,
+            from,
+            items,
+        )?;
         self.order.reserve(items.len())?;
         let mut tail = make_room(&self.order, &mut self.held, self.mode, from)?;
         cut_off(&mut self.order, &mut self.held, self.mode, from, &mut tail);

@@ -6,7 +6,7 @@ abbrev pub invariant-loop-order : goal.invariant-loop-order
 invariant-loop-order l = record {
   within : l.from ≤ length l.order.cells;
   front : IsFront l.order.cells l.initial.order.cells;
-  spare : l.order.spare ≡ l.initial.order.spare
+  spare : l.order.spare ≡ l.initial.order.spare;
 }
 
 abbrev pub decreases-loop-order : goal.decreases-loop-order

@@ -7,7 +7,7 @@ invariant-loop-tail l = record {
   within : l.from ≤ length l.order.cells;
   all : l.order.cells ++ l.tail.items ≡ l.initial.order.cells;
   room : length l.tail.items + length l.order.cells ≤ deque_capacity l.tail + l.from;
-  spare : l.order.spare ≡ l.initial.order.spare
+  spare : l.order.spare ≡ l.initial.order.spare;
 }
 
 abbrev pub decreases-loop-tail : goal.decreases-loop-tail

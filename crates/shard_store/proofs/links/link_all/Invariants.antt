@@ -6,5 +6,5 @@ abbrev pub invariant-loop-place : goal.invariant-loop-place
 invariant-loop-place l = record {
   heads_len : length l.heads ≡ length l.initial.heads;
   before_len : length l.before ≡ length l.initial.before;
-  linked : IsLinked (tag_in (length l.heads) l.cells) l.heads l.before l.place
+  linked : IsLinked (tag_in (length l.heads) l.cells) l.heads l.before l.place;
 }

@@ -7,7 +7,7 @@ invariant-loop-cell l = record {
   room : length l.drafts.items ≤ l.order.spare;
   short : length l.order.cells + length l.drafts.items < 2 ^ 32;
   cells : l.order.cells ++ settled_all l.held.records l.drafts.items ≡ l.initial.order.cells ++ settled_all l.initial.held.records l.initial.drafts.items;
-  held : held_beside_all l.held.records (settled_all l.held.records l.drafts.items) ≡ held_beside_all l.initial.held.records (settled_all l.initial.held.records l.initial.drafts.items)
+  held : held_beside_all l.held.records (settled_all l.held.records l.drafts.items) ≡ held_beside_all l.initial.held.records (settled_all l.initial.held.records l.initial.drafts.items);
 }
 
 abbrev pub decreases-loop-cell : goal.decreases-loop-cell

@@ -6,5 +6,5 @@ use Rattle.shard_store.proofs.store.ShardStore.part.Given as goal
 abbrev pub invariant-loop-place : goal.invariant-loop-place
 invariant-loop-place l = record {
   made : l.made ≡ entries_from l.from (slice_range l.self-inside.order.cells l.from l.place);
-  still : l.to ≤ l.from → l.place ≡ l.from
+  still : l.to ≤ l.from → l.place ≡ l.from;
 }
