@@ -9,3 +9,4 @@ pub mod Searches
 pub mod Extending
 pub mod Keeping
 pub mod Fronts
+pub mod Forecasts

@@ -8,7 +8,7 @@ use Rattle.rec_id.specs.declared.item.Cell.{Cell}
 use Rattle.rec_id.specs.declared.item.Item.{Item}
 use Rattle.view_config.specs.declared.edition.Mode.{Mode}
 use Rattle.view_config.specs.declared.edition.Mode.TheVariants.{M, St}
-use Rattle.lazy_rules.specs.Store.{filled_or_open, held_bytes, held_beside, has_data, is_cell_of, bytes_in}
+use Rattle.lazy_rules.specs.Store.{filled_or_open, held_bytes, held_beside, has_data, is_cell_of, bytes_in, kept_bytes}
 
 -- the place belongs to this shard, of so many
 abbrev pub owns : Mode → ℕ → ℕ → ℕ → Identity → Bool
@@ -69,3 +69,8 @@ given_back St cells held tail = held_again_all cells held tail
 abbrev pub cut_count : Mode → ℕ → ℕ
 cut_count M count = 0
 cut_count St count = count
+
+-- the data that a cut gives back of a record that isn't held
+abbrev pub bytes_back : Mode → List Cell → List Cell → Identity → Option (List ℕ)
+bytes_back M cells tail id = None
+bytes_back St cells tail id = if list_any (is_cell_of has_data id) cells then None else kept_bytes tail id

@@ -9,6 +9,7 @@
 mod cutting;
 mod drafts;
 mod entries;
+mod forecast;
 mod held;
 mod kinds;
 mod links;

@@ -52,6 +52,20 @@ impl Order {
         }
     }
 
+    /// The cells alone. It takes no memory.
+    pub(crate) fn into_cells(self) -> Vec<Cell>
+        ensures { result.items ≡ self.cells }
+    {
+        let Order {
+            cells,
+            heads: _,
+            before: _,
+            opens: _,
+            spare: _,
+        } = self;
+        cells
+    }
+
     pub(crate) fn len(&self) -> u32
         ensures len { result ≡ length self.now.cells }
         ensures short { length self.now.cells < 2 ^ 32 }

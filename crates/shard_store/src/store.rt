@@ -1,12 +1,13 @@
 //! The store of a shard replica.
 
 ghost use Rattle.std.specs.Prelude.{◌≡◌, ◌+◌, ◌^◌, ◌<◌, ◌≤◌, [], Some, true, false, length, slice_get, IfOk, IfSome, OnOk, OnErr, option_map, IsTrue};
-ghost use Rattle.lazy_rules.specs.Store.{new_store, has, noop_at, open_at, first_open, has_open, has_open_below, bytes_of, hold, extend, extend_cells, fill, open_to_noop, open_count, raise_stable, part, trim, cut, recut, recut_cells};
+ghost use Rattle.lazy_rules.specs.Store.{new_store, has, noop_at, open_at, first_open, has_open, has_open_below, bytes_of, hold, extend, extend_cells, fill, open_to_noop, open_count, raise_stable, part, trim, cut, recut, recut_cells, cells_of};
 ghost use Rattle.shard_store.specs.Sound.{IsSound, is_open_at};
 
 use crate::cutting::{cut_off, make_room};
 use crate::drafts::draft_all;
 use crate::entries::{entry_in, push_entry};
+use crate::forecast::foresee_all;
 use crate::held::Held;
 use crate::kinds::Kind;
 use crate::order::Order;
@@ -286,5 +287,22 @@ impl ShardStore {
         cut_off(&mut self.order, &mut self.held, self.mode, from, &mut tail);
         append_all(&mut self.order, &mut self.held, copies);
         Ok(())
+    }
+
+    /// The cells that the order would have from `from` on after `recut(from, items)`.
+    pub fn cells_of(&self, from: u32, items: &ItemList) -> Result<CellList, AllocError>
+        requires cut { (self.now.stable ≤ from) × (from ≤ length self.now.order) }
+        requires short { from + length items.now < 2 ^ 32 }
+        ensures { IfOk result (λ made. made ≡ cells_of self.now from items.now) }
+    {
+        let drafts = draft_all(
+            self.held.allocator(),
+            self.mode,
+            self.shard,
+            self.shards,
+            from,
+            items,
+        )?;
+        foresee_all(&self.order, &self.held, self.mode, from, drafts)
     }
 }
