@@ -1,6 +1,6 @@
 -- Cells that get another body: open ones that close, kept ones that are given up.
-use Rattle.std.proofs.Common.{◌≡◌, ◌⊎◌, ℕ, suc, zero, ◌+◌, ◌-◌, ◌<◌, ◌≤◌, List, [], ◌∷◌, ◌++◌, Bool, true, false, not, cond, eqb, ltb, Option, Some, None, length, get_or, map, take, drop, subst, inl, inr, sym, ap, ◌∙◌, refl, arith, add-one}
-use Rattle.std.specs.List.{position, position_or_len, list_any, filter, remove, slice_get}
+use Rattle.std.proofs.Common.{◌≡◌, ◌⊎◌, ℕ, suc, zero, ◌+◌, ◌<◌, ◌≤◌, List, [], ◌∷◌, Bool, true, false, not, cond, eqb, ltb, Some, None, length, get_or, map, take, drop, subst, inl, inr, sym, ap, ◌∙◌, refl, arith}
+use Rattle.std.specs.List.{position, position_or_len, filter, remove, slice_get}
 use Rattle.std.proofs.Math.ListN.{set, length-set}
 use Rattle.std.proofs.lemmas.Bool.{cases_eq, cases_lt, eq-eqb, ne_eqb, lt-ltb, le-ltb, cond-true, cond-false}
 use Rattle.std.proofs.lemmas.List.{get_or-set_same, get_or-set_other, length-append, length-take, length-drop}
@@ -8,7 +8,7 @@ use Rattle.rec_id.specs.declared.item.Body.{Body}
 use Rattle.rec_id.specs.declared.item.Body.TheVariants.{Elsewhere, Kept, Noop, Open, Gone}
 use Rattle.rec_id.specs.declared.item.Cell.{Cell}
 use Rattle.lazy_rules.specs.Store.{is_open, closed, closed_cell, given_up, given_up_cell}
-use Rattle.shard_store.specs.Links.{blank, cell_at, bucket, tag_in, IsLinked}
+use Rattle.shard_store.specs.Links.{blank, bucket, tag_in, IsLinked}
 use Rattle.shard_store.specs.Places.{open_from, IsIndexed, IsGivenUp, IsClosing}
 use Rattle.shard_store.proofs.LinkLemmas.{linked_same}
 

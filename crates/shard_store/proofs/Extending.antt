@@ -1,16 +1,16 @@
 -- An order that items or cells extend.
-use Rattle.std.proofs.Common.{◌≡◌, ℕ, suc, ◌+◌, ◌<◌, ◌≤◌, List, [], ◌∷◌, ◌++◌, Bool, true, false, cond, Option, Some, None, length, get_or, take, drop, subst, sym, ap, ◌∙◌, refl, arith}
+use Rattle.std.proofs.Common.{◌≡◌, ℕ, suc, ◌+◌, ◌<◌, ◌≤◌, List, [], ◌∷◌, ◌++◌, Bool, true, false, cond, Option, Some, None, length, get_or, take, drop, sym, ap, ◌∙◌, refl, arith}
 use Rattle.std.specs.Option.{option_or}
-use Rattle.std.proofs.lemmas.List.{append_assoc, append-nil, length_push, length-append, take_more, length-take-le}
+use Rattle.std.proofs.lemmas.List.{append_assoc, append-nil, length_push, take_more, length-take-le}
 use Rattle.rec_id.specs.Identity.{Identity}
 use Rattle.rec_id.specs.declared.item.Body.{Body}
-use Rattle.rec_id.specs.declared.item.Body.TheVariants.{Elsewhere, Kept, Noop, Open, Gone}
+use Rattle.rec_id.specs.declared.item.Body.TheVariants.{Elsewhere}
 use Rattle.rec_id.specs.declared.item.Cell.{Cell}
 use Rattle.rec_id.specs.declared.item.Item.{Item}
 use Rattle.view_config.specs.declared.edition.Mode.{Mode}
 use Rattle.view_config.specs.declared.edition.Mode.TheVariants.{M, St}
-use Rattle.lazy_rules.specs.Store.{Store, is_own, is_own_by, body_for, cell_for, with_cell, extend, extend_cells, filled_or_open, held_bytes, held_beside, has, hold, hold_again, hold_cells, bytes_in, give_back, cut, recut, recut_cells}
-use Rattle.shard_store.specs.Settling.{owns, drafted, drafts, settled, settled_body, settled_all, held_after, held_beside_all, has_in, held_again, held_again_all, given_back}
+use Rattle.lazy_rules.specs.Store.{Store, is_own_by, cell_for, with_cell, extend, extend_cells, filled_or_open, held_bytes, has, hold_again, hold_cells, bytes_in, give_back, cut, recut, recut_cells}
+use Rattle.shard_store.specs.Settling.{owns, drafted, drafts, settled, settled_body, settled_all, held_after, held_beside_all, held_again, held_again_all, given_back}
 
 abbrev pub Pairs : Type 0
 Pairs = List (Identity × List ℕ)

@@ -1,5 +1,5 @@
 -- What is held after a cut, and beside cells that came after it.
-use Rattle.std.proofs.Common.{◌≡◌, ℕ, suc, ◌+◌, ◌<◌, ◌≤◌, List, [], ◌∷◌, ◌++◌, Bool, true, false, cond, not, ◌||◌, ◌&&◌, Option, Some, None, length, take, drop, subst, sym, ap, ◌∙◌, refl, arith}
+use Rattle.std.proofs.Common.{◌≡◌, ℕ, List, [], ◌∷◌, ◌++◌, Bool, true, false, cond, not, ◌||◌, ◌&&◌, Option, Some, None, take, drop, subst, sym, ap, ◌∙◌, refl}
 use Rattle.std.specs.Prelude.{is_some}
 use Rattle.std.specs.Option.{option_or}
 use Rattle.std.specs.List.{list_any}
@@ -36,12 +36,14 @@ bytes_without (x ∷ xs) gone id = by_test (same_id x.0 gone) refl (bytes_withou
         → held_bytes (without_held xs gone) id ≡ cond same None (cond same (Some x.1) (held_bytes xs id))
     out true again first second rest = rest
     out false again first second rest = rest
+
     kept : (same here : Bool) → same_id x.0 id ≡ here → same_id gone id ≡ same → same_id x.0 gone ≡ false → held_bytes (without_held xs gone) id ≡ cond same None (held_bytes xs id)
         → cond here (Some x.1) (held_bytes (without_held xs gone) id) ≡ cond same None (cond here (Some x.1) (held_bytes xs id))
     kept true true first second apart rest = absurd (true_is_not_false (same_id x.0 gone) (subst (λ (one : Identity). same_id x.0 one ≡ true) (sym (same_is gone id second)) first) apart)
     kept true false first second apart rest = rest
     kept false true first second apart rest = refl
     kept false false first second apart rest = rest
+
     by_test : (b : Bool) → same_id x.0 gone ≡ b → held_bytes (without_held xs gone) id ≡ cond (same_id gone id) None (held_bytes xs id)
         → held_bytes (cond (not b) (x ∷ without_held xs gone) (without_held xs gone)) id ≡ cond (same_id gone id) None (held_bytes (x ∷ xs) id)
     by_test true is rest =
@@ -68,12 +70,15 @@ bytes_beside held (cell ∷ cells) id = bytes_beside (held_after held cell) cell
     by_test true false = refl
     by_test false true = refl
     by_test false false = refl
+
     pass : (same : Bool) → cond (list_any (is_cell_of is_kept id) cells) None (held_bytes held id) ≡ cond ((same && false) || list_any (is_cell_of is_kept id) cells) None (held_bytes held id)
     pass true = refl
     pass false = refl
+
     keep : (same : Bool) → cond (list_any (is_cell_of is_kept id) cells) None (cond same None (held_bytes held id)) ≡ cond ((same && true) || list_any (is_cell_of is_kept id) cells) None (held_bytes held id)
     keep true = by_test true (list_any (is_cell_of is_kept id) cells)
     keep false = by_test false (list_any (is_cell_of is_kept id) cells)
+
     by_body : (body : Body) → cond (list_any (is_cell_of is_kept id) cells) None (held_bytes (held_beside body held cell.id) id)
         ≡ cond ((same_id cell.id id && is_kept body) || list_any (is_cell_of is_kept id) cells) None (held_bytes held id)
     by_body Elsewhere = pass (same_id cell.id id)
@@ -99,6 +104,7 @@ bytes_again front held (cell ∷ tail) id =
   where
     rest : Option (List ℕ)
     rest = kept_bytes tail id
+
     there : (bytes : List ℕ) (same : Bool) → same_id cell.id id ≡ same → has_in front held cell.id ≡ true
         → option_or (held_bytes held id) (cond (list_any (is_cell_of has_data id) front) None rest)
         ≡ option_or (held_bytes held id) (cond (list_any (is_cell_of has_data id) front) None (cond same (option_or (Some bytes) rest) rest))
@@ -110,6 +116,7 @@ bytes_again front held (cell ∷ tail) id =
         cases (Some y) b had = refl
         cases None true had = refl
         cases None false had = let wrong : false ≡ true = had in absurd cc
+
     new : (bytes : List ℕ) (same : Bool) → same_id cell.id id ≡ same → has_in front held cell.id ≡ false
         → option_or (option_or (held_bytes held id) (cond same (Some bytes) None)) (cond (list_any (is_cell_of has_data id) front) None rest)
         ≡ option_or (held_bytes held id) (cond (list_any (is_cell_of has_data id) front) None (cond same (option_or (Some bytes) rest) rest))
@@ -121,6 +128,7 @@ bytes_again front held (cell ∷ tail) id =
         cases (Some y) b had = let wrong : true ≡ false = had in absurd cc
         cases None true had = let wrong : true ≡ false = had in absurd cc
         cases None false had = refl
+
     by_has : (bytes : List ℕ) (b : Bool) → has_in front held cell.id ≡ b
         → option_or (held_bytes (cond b held (held ++ (cell.id, bytes) ∷ [])) id) (cond (list_any (is_cell_of has_data id) front) None rest)
         ≡ option_or (held_bytes held id) (cond (list_any (is_cell_of has_data id) front) None (cond (same_id cell.id id) (option_or (Some bytes) rest) rest))
@@ -128,10 +136,12 @@ bytes_again front held (cell ∷ tail) id =
     by_has bytes false is =
         ap (λ (x : Option (List ℕ)). option_or x (cond (list_any (is_cell_of has_data id) front) None rest)) (bytes_push held cell.id id bytes)
         ∙ new bytes (same_id cell.id id) refl is
+
     none : (same : Bool) → option_or (held_bytes held id) (cond (list_any (is_cell_of has_data id) front) None rest)
         ≡ option_or (held_bytes held id) (cond (list_any (is_cell_of has_data id) front) None (cond same rest rest))
     none true = refl
     none false = refl
+
     by_bytes : (bytes : Option (List ℕ)) → option_or (held_bytes (held_again front held cell.id bytes) id) (cond (list_any (is_cell_of has_data id) front) None rest)
         ≡ option_or (held_bytes held id) (cond (list_any (is_cell_of has_data id) front) None (cond (same_id cell.id id) (option_or bytes rest) rest))
     by_bytes None = none (same_id cell.id id)

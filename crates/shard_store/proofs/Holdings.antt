@@ -1,7 +1,6 @@
 -- Held records: finding one, taking it out, and one more.
-use Rattle.std.proofs.Common.{◌≡◌, ℕ, suc, ◌+◌, ◌<◌, ◌≤◌, List, [], ◌∷◌, ◌++◌, Bool, true, false, not, cond, ◌||◌, Option, Some, None, length, get_or, take, drop, subst, inl, inr, sym, ap, ◌∙◌, refl, arith}
-use Rattle.std.specs.List.{position, position_or_len, list_any, filter, remove}
-use Rattle.std.specs.Prelude.{is_some}
+use Rattle.std.proofs.Common.{◌≡◌, ℕ, suc, ◌+◌, ◌<◌, List, [], ◌∷◌, ◌++◌, Bool, true, false, not, cond, ◌||◌, Option, Some, None, length, get_or, subst, sym, ap, ◌∙◌, refl, arith}
+use Rattle.std.specs.List.{position, position_or_len, filter, remove}
 use Rattle.std.proofs.lemmas.Bool.{and_parts, and_from, or_parts, or_from, not-true, not_from_false}
 use Rattle.std.proofs.lemmas.List.Folds.{list_any-append}
 use Rattle.rec_id.specs.Identity.{Identity}
@@ -9,7 +8,7 @@ use Rattle.lazy_rules.specs.Ids.{same_id}
 use Rattle.lazy_rules.specs.Store.{held_bytes, without_held, held_beside, filled_or_open}
 use Rattle.shard_store.specs.Holding.{is_held, is_distinct}
 use Rattle.shard_store.proofs.Identities.{same_is, apart_turned}
-use Rattle.shard_store.proofs.Positions.{position_some, none_passes}
+use Rattle.shard_store.proofs.Positions.{position_some}
 
 abbrev pub Pair : Type 0
 Pair = Identity × List ℕ

@@ -1,7 +1,7 @@
 -- An order keeps its index when a cell comes or leaves.
 use Rattle.std.proofs.Common.{◌≡◌, ℕ, suc, ◌+◌, ◌-◌, ◌^◌, ◌<◌, ◌≤◌, List, [], ◌∷◌, ◌++◌, Bool, true, false, cond, length, get_or, subst, sym, ap, ◌∙◌, refl, arith}
 use Rattle.std.proofs.Math.ListN.{set, length-set}
-use Rattle.std.proofs.lemmas.List.{length_push, length-append, get_or_append_left, get_or_push, append_assoc}
+use Rattle.std.proofs.lemmas.List.{length_push, length-append, get_or_append_left, get_or_push}
 use Rattle.rec_id.specs.declared.item.Cell.{Cell}
 use Rattle.lazy_rules.specs.Store.{is_open}
 use Rattle.shard_store.specs.Links.{blank, bucket, tag_in, IsLinked}

@@ -1,8 +1,8 @@
 -- What stays true of a store, and what its parts are.
-use Rattle.std.proofs.Common.{◌≡◌, ℕ, suc, ◌+◌, ◌-◌, ◌<◌, ◌≤◌, List, [], ◌∷◌, ◌++◌, Bool, true, false, cond, max, Option, Some, None, length, get_or, map, take, drop, subst, inl, inr, sym, ap, ◌∙◌, refl, arith}
-use Rattle.std.specs.List.{slice_range, between}
+use Rattle.std.proofs.Common.{◌≡◌, ℕ, suc, ◌+◌, ◌-◌, ◌<◌, ◌≤◌, List, [], ◌∷◌, ◌++◌, true, false, max, length, get_or, map, take, drop, inl, inr, sym, ap, ◌∙◌, refl, arith}
+use Rattle.std.specs.List.{between}
 use Rattle.std.proofs.lemmas.Bool.{cases_lt}
-use Rattle.std.proofs.lemmas.List.{append_assoc, append-nil, get_or-map, get_or-take, get_or-drop, get_or_append_left, get_or-append_right, length-append, length-map, length-take, length-take-le, length-drop, ext_get_or}
+use Rattle.std.proofs.lemmas.List.{append_assoc, append-nil, get_or-map, get_or-take, get_or-drop, get_or_append_left, get_or-append_right, length-append, length-map, length-take-le, length-drop, ext_get_or}
 use Rattle.std.proofs.lemmas.List.Edits.{between_more, length-between}
 use Rattle.rec_id.specs.declared.entry.Entry.{Entry}
 use Rattle.rec_id.specs.declared.item.Body.{Body}
@@ -10,7 +10,7 @@ use Rattle.rec_id.specs.declared.item.Body.TheVariants.{Elsewhere, Kept, Noop, O
 use Rattle.rec_id.specs.declared.item.Cell.{Cell}
 use Rattle.lazy_rules.specs.Store.{Store, is_open, closed, closed_cell, given_up, given_up_cell, open_to_noop, entry_in, placed_entry, entries_from, trim}
 use Rattle.shard_store.specs.Kinds.{is_kept}
-use Rattle.shard_store.specs.Links.{blank, cell_at}
+use Rattle.shard_store.specs.Links.{blank}
 use Rattle.shard_store.specs.Places.{IsGivenUp}
 use Rattle.shard_store.specs.Sound.{IsSound}
 use Rattle.shard_store.proofs.Extending.{Pairs, grown}

@@ -1,4 +1,4 @@
-use Rattle.std.specs.Prelude.{ℕ, suc, zero, slice_index_or, ◌+◌, ◌*◌, ◌%◌, ◌<◌, ◌≡◌, List, length, Bool, ◌==◌, if◌then◌else◌}
+use Rattle.std.specs.Prelude.{ℕ, suc, zero, slice_index_or, ◌+◌, ◌*◌, ◌%◌, ◌<◌, ◌≡◌, List, length, ◌==◌, if◌then◌else◌}
 use Rattle.rec_id.specs.Identity.{Identity}
 use Rattle.rec_id.specs.declared.item.Cell.{Cell}
 use Rattle.rec_id.specs.declared.item.Body.TheVariants.{Elsewhere}

@@ -42,7 +42,13 @@ fn bytes_back(order: &Order, mode: Mode, from: u32, id: RecordId) -> Option<&Byt
 }
 
 /// The data that would be held for the record after a cut at `from`.
-fn bytes_after_cut<'a>(order: &'a Order, held: &'a Held, mode: Mode, from: u32, id: RecordId) -> Option<&'a Bytes>
+fn bytes_after_cut<'a>(
+    order: &'a Order,
+    held: &'a Held,
+    mode: Mode,
+    from: u32,
+    id: RecordId,
+) -> Option<&'a Bytes>
     ensures { option_map (λ bytes. bytes.now) result ≡ held_bytes (given_back mode (take from order.now.cells) held.now.records (drop from order.now.cells)) id }
 {
     match held.get(id) {
@@ -52,7 +58,14 @@ fn bytes_after_cut<'a>(order: &'a Order, held: &'a Held, mode: Mode, from: u32, 
 }
 
 /// The data that would be held for the record after a cut at `from` and beside the cells `made`.
-fn bytes_beside(order: &Order, held: &Held, mode: Mode, from: u32, made: &Order, id: RecordId) -> Result<Option<Bytes>, AllocError>
+fn bytes_beside(
+    order: &Order,
+    held: &Held,
+    mode: Mode,
+    from: u32,
+    made: &Order,
+    id: RecordId,
+) -> Result<Option<Bytes>, AllocError>
     ensures { IfOk result (λ bytes. bytes ≡ held_bytes (held_beside_all (given_back mode (take from order.now.cells) held.now.records (drop from order.now.cells)) made.now.cells) id) }
 {
     if made.first(Kind::Kept, id).is_some() {
@@ -65,7 +78,14 @@ fn bytes_beside(order: &Order, held: &Held, mode: Mode, from: u32, made: &Order,
 }
 
 /// The draft with the data that it would get.
-fn foresee(order: &Order, held: &Held, mode: Mode, from: u32, made: &Order, draft: Cell) -> Result<Cell, AllocError>
+fn foresee(
+    order: &Order,
+    held: &Held,
+    mode: Mode,
+    from: u32,
+    made: &Order,
+    draft: Cell,
+) -> Result<Cell, AllocError>
     ensures { IfOk result (λ cell. cell ≡ settled (held_beside_all (given_back mode (take from order.now.cells) held.now.records (drop from order.now.cells)) made.now.cells) draft) }
 {
     let Cell { id, body } = draft;
@@ -94,7 +114,13 @@ fn foresee(order: &Order, held: &Held, mode: Mode, from: u32, made: &Order, draf
 }
 
 /// The drafts as cells of an order that was cut off at `from`.
-pub(crate) fn foresee_all(order: &Order, held: &Held, mode: Mode, from: u32, drafts: VecDeque<Cell>) -> Result<CellList, AllocError>
+pub(crate) fn foresee_all(
+    order: &Order,
+    held: &Held,
+    mode: Mode,
+    from: u32,
+    drafts: VecDeque<Cell>,
+) -> Result<CellList, AllocError>
     requires { length drafts.items < 2 ^ 32 }
     ensures { IfOk result (λ made. made ≡ settled_all (given_back mode (take from order.now.cells) held.now.records (drop from order.now.cells)) drafts.items) }
 {

@@ -144,100 +144,122 @@ fn part_len(store: &ShardStore, from: u32, to: u32) -> Result<usize, Fail> {
     Ok(store.part(from, to)?.len())
 }
 
+/// The order has these bodies.
+fn expect(alloc: Global, store: &ShardStore, want: &str) -> Result<(), Fail> {
+    if shown(alloc, store)?.as_slice() == want.as_bytes() {
+        Ok(())
+    } else {
+        Err("another order")?
+    }
+}
+
+fn hold(alloc: Global, store: &mut ShardStore, number: u32, byte: u8) -> Result<(), Fail> {
+    store.hold(id(number)?, Bytes::copy(alloc, &[byte])?)?;
+    Ok(())
+}
+
+fn one_cell(alloc: Global, number: u32, body: Body) -> Result<CellList, Fail> {
+    let mut cells = Sequence::new(alloc);
+    cells.push(Cell {
+        id: id(number)?,
+        body,
+    })?;
+    Ok(cells)
+}
+
+fn cells_of_len(store: &ShardStore, from: u32, items: &ItemList) -> Result<usize, Fail> {
+    may_cut(store, from)?;
+    if items.len() > (u32::MAX - from) as usize {
+        return Err("too long")?;
+    }
+    Ok(store.cells_of(from, items)?.len())
+}
+
 #[test]
 fn held_open_noop_cut(rt: HostRuntime) -> Result<(), Fail> {
-    let mut store = ShardStore::new(rt.alloc(), Mode::St, 0, 1);
-    store.hold(id(1)?, Bytes::copy(rt.alloc(), b"a")?)?;
-    extend(&mut store, &items(rt.alloc(), &[(1, None), (2, None)])?)?;
-    assert_eq!(rt; shown(rt.alloc(), &store)?.as_slice(), b"KaO".as_slice());
+    let alloc = rt.alloc();
+    let mut store = ShardStore::new(alloc, Mode::St, 0, 1);
+    hold(alloc, &mut store, 1, b'a')?;
+    extend(&mut store, &items(alloc, &[(1, None), (2, None)])?)?;
+    expect(alloc, &store, "KaO")?;
     assert_eq!(rt; store.open_to_noop(), 1);
     assert_eq!(rt; store.noop_at(id(2)?), Some(1));
     cut(&mut store, 0)?;
-    assert_eq!(rt; store.len(), 0);
+    expect(alloc, &store, "")?;
     assert!(rt; store.has(id(1)?));
     Ok(())
 }
 
-#[test]
-fn all_calls_in_both_modes(rt: HostRuntime) -> Result<(), Fail> {
-    for (mode, wants, closed, held) in [
-        (
-            Mode::M,
-            [
-                "KbEKdE",
-                "KbEKdEOKj",
-                "KbEKdEKhKj",
-                "KbEKdEKhKj",
-                "GEKdEKhKj",
-                "GEKdEKh",
-                "GEKdEO",
-                "GEKdEON",
-            ],
-            0,
-            false,
-        ),
-        (
-            Mode::St,
-            [
-                "KbEKdO",
-                "KbEKdOOKj",
-                "KbEKdOKhKj",
-                "KbEKdNKhKj",
-                "GEKdNKhKj",
-                "GEKdNKh",
-                "GEKdNKj",
-                "GEKdNKjN",
-            ],
-            1,
-            true,
-        ),
-    ] {
-        let alloc = rt.alloc();
-        let mut store = ShardStore::new(alloc, mode, 0, 2);
-        store.hold(id(4)?, Bytes::copy(alloc, b"d")?)?;
-        store.hold(id(4)?, Bytes::copy(alloc, b"x")?)?;
-        extend(
-            &mut store,
-            &items(alloc, &[(2, Some(b'b')), (3, None), (4, None), (6, None)])?,
-        )?;
-        assert_eq!(rt; shown(alloc, &store)?.as_slice(), wants[0].as_bytes());
-        let mut cells = Sequence::new(alloc);
-        cells.push(Cell {
-            id: id(8)?,
-            body: Body::Open,
-        })?;
-        cells.push(Cell {
-            id: id(10)?,
-            body: Body::Kept(Bytes::copy(alloc, b"j")?),
-        })?;
-        extend_cells(&mut store, &cells)?;
-        assert_eq!(rt; shown(alloc, &store)?.as_slice(), wants[1].as_bytes());
-        assert!(rt; store.has_open());
-        fill(&mut store, id(8)?, Bytes::copy(alloc, b"h")?)?;
-        assert_eq!(rt; shown(alloc, &store)?.as_slice(), wants[2].as_bytes());
-        assert_eq!(rt; store.first_open().is_some(), closed == 1);
-        assert_eq!(rt; store.open_to_noop(), closed);
-        assert_eq!(rt; shown(alloc, &store)?.as_slice(), wants[3].as_bytes());
-        raise_stable(&mut store, 3)?;
-        trim(&mut store, 1)?;
-        assert_eq!(rt; (store.stable(), store.floor()), (3, 1));
-        assert_eq!(rt; shown(alloc, &store)?.as_slice(), wants[4].as_bytes());
-        assert!(rt; store.has(id(2)?) && store.bytes_of(id(2)?).is_none());
-        assert_eq!(rt; part_len(&store, 1, 3)?, 1);
-        cut(&mut store, 5)?;
-        assert_eq!(rt; shown(alloc, &store)?.as_slice(), wants[5].as_bytes());
-        assert_eq!(rt; store.has(id(10)?), held);
-        recut(&mut store, 4, &items(alloc, &[(10, None)])?)?;
-        assert_eq!(rt; shown(alloc, &store)?.as_slice(), wants[6].as_bytes());
-        assert_eq!(rt; store.has(id(8)?), held);
-        let mut cells = Sequence::new(alloc);
-        cells.push(Cell {
-            id: id(12)?,
-            body: Body::Noop,
-        })?;
-        recut_cells(&mut store, 5, &cells)?;
-        assert_eq!(rt; shown(alloc, &store)?.as_slice(), wants[7].as_bytes());
-        assert_eq!(rt; store.noop_at(id(12)?), Some(5));
+/// Data comes early and late, cells as items and as they are.
+fn fills_up(alloc: Global, mode: Mode, wants: [&str; 3]) -> Result<ShardStore, Fail> {
+    let mut store = ShardStore::new(alloc, mode, 0, 2);
+    hold(alloc, &mut store, 4, b'd')?;
+    hold(alloc, &mut store, 4, b'x')?;
+    let some = items(alloc, &[(2, Some(b'b')), (3, None), (4, None), (6, None)])?;
+    extend(&mut store, &some)?;
+    expect(alloc, &store, wants[0])?;
+    extend_cells(&mut store, &one_cell(alloc, 8, Body::Open)?)?;
+    let kept = Body::Kept(Bytes::copy(alloc, b"j")?);
+    extend_cells(&mut store, &one_cell(alloc, 10, kept)?)?;
+    expect(alloc, &store, wants[1])?;
+    fill(&mut store, id(8)?, Bytes::copy(alloc, b"h")?)?;
+    expect(alloc, &store, wants[2])?;
+    Ok(store)
+}
+
+/// What is open closes, a front becomes final and is told and trimmed.
+fn settles(alloc: Global, store: &mut ShardStore, closed: u32, want: &str) -> Result<(), Fail> {
+    if store.first_open().is_some() != (closed == 1) || store.has_open() != (closed == 1) {
+        return Err("open cells")?;
     }
-    Ok(())
+    if store.open_to_noop() != closed {
+        return Err("another count")?;
+    }
+    raise_stable(store, 3)?;
+    trim(store, 1)?;
+    if store.bytes_of(id(2)?).is_some() || !store.has(id(2)?) {
+        return Err("not given up")?;
+    }
+    if part_len(store, 1, 3)? != 1 || store.stable() != 3 || store.floor() != 1 {
+        return Err("another part")?;
+    }
+    expect(alloc, store, want)
+}
+
+/// The order is cut, and cut and extended.
+fn is_recut(
+    alloc: Global,
+    store: &mut ShardStore,
+    held: bool,
+    wants: [&str; 3],
+) -> Result<(), Fail> {
+    cut(store, 5)?;
+    expect(alloc, store, wants[0])?;
+    if store.has(id(10)?) != held {
+        return Err("held")?;
+    }
+    let next = items(alloc, &[(10, None)])?;
+    if cells_of_len(store, 4, &next)? != 1 {
+        return Err("other cells")?;
+    }
+    recut(store, 4, &next)?;
+    expect(alloc, store, wants[1])?;
+    recut_cells(store, 5, &one_cell(alloc, 12, Body::Noop)?)?;
+    expect(alloc, store, wants[2])
+}
+
+#[test]
+fn all_calls_where_records_go_whole(rt: HostRuntime) -> Result<(), Fail> {
+    let alloc = rt.alloc();
+    let mut store = fills_up(alloc, Mode::M, ["KbEKdE", "KbEKdEOKj", "KbEKdEKhKj"])?;
+    settles(alloc, &mut store, 0, "GEKdEKhKj")?;
+    is_recut(alloc, &mut store, false, ["GEKdEKh", "GEKdEO", "GEKdEON"])
+}
+
+#[test]
+fn all_calls_where_data_comes_by_itself(rt: HostRuntime) -> Result<(), Fail> {
+    let alloc = rt.alloc();
+    let mut store = fills_up(alloc, Mode::St, ["KbEKdO", "KbEKdOOKj", "KbEKdOKhKj"])?;
+    settles(alloc, &mut store, 1, "GEKdNKhKj")?;
+    is_recut(alloc, &mut store, true, ["GEKdNKh", "GEKdNKj", "GEKdNKjN"])
 }

@@ -1,4 +1,4 @@
-use Rattle.std.proofs.Common.{ℕ, ◌≡◌, ◌≤◌, length}
+use Rattle.std.proofs.Common.{◌≡◌, ◌≤◌, length}
 use Rattle.shard_store.proofs.Fronts.{IsFront}
 use Rattle.shard_store.proofs.cutting.drop_from.Given as goal
 

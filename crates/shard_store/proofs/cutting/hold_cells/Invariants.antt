@@ -1,4 +1,4 @@
-use Rattle.std.proofs.Common.{ℕ, ◌≡◌, ◌≤◌, length}
+use Rattle.std.proofs.Common.{◌≡◌, ◌≤◌, length}
 use Rattle.shard_store.specs.Settling.{held_again_all}
 use Rattle.shard_store.proofs.cutting.hold_cells.Given as goal
 

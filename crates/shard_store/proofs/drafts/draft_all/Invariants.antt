@@ -1,4 +1,4 @@
-use Rattle.std.proofs.Common.{ℕ, ◌≡◌, take}
+use Rattle.std.proofs.Common.{◌≡◌, take}
 use Rattle.shard_store.specs.Settling.{drafts}
 use Rattle.shard_store.proofs.drafts.draft_all.Given as goal
 

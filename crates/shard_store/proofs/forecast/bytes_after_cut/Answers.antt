@@ -1,5 +1,5 @@
 use Rattle.std.proofs.Common.{◌≡◌, ℕ, List, Option, Some, None, take, drop, sym, ap, ◌∙◌, rules}
-use Rattle.std.specs.Option.{option_or, option_map}
+use Rattle.std.specs.Option.{option_or}
 use Rattle.lazy_rules.specs.Store.{held_bytes}
 use Rattle.shard_store.specs.Settling.{bytes_back}
 use Rattle.shard_store.proofs.Forecasts.{cut_bytes}

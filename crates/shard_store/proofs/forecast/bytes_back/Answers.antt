@@ -1,4 +1,4 @@
-use Rattle.std.proofs.Common.{◌≡◌, false, Bool, cond, None, Option, List, ℕ, take, drop, sym, ap, ◌∙◌}
+use Rattle.std.proofs.Common.{◌≡◌, false, Bool, cond, None, take, drop, sym, ap, ◌∙◌}
 use Rattle.std.specs.List.{list_any}
 use Rattle.view_config.specs.declared.edition.Mode.{Mode}
 use Rattle.lazy_rules.specs.Store.{is_cell_of, has_data, kept_bytes}

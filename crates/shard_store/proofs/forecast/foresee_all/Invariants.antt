@@ -1,4 +1,4 @@
-use Rattle.std.proofs.Common.{ℕ, ◌≡◌, ◌+◌, ◌^◌, ◌<◌, ◌≤◌, ◌++◌, length, take, drop}
+use Rattle.std.proofs.Common.{◌≡◌, ◌+◌, ◌^◌, ◌<◌, ◌≤◌, ◌++◌, length, take, drop}
 use Rattle.shard_store.specs.Settling.{settled_all, held_beside_all, given_back}
 use Rattle.shard_store.proofs.forecast.foresee_all.Given as goal
 
@@ -8,7 +8,7 @@ invariant-loop-draft l =
     record {
       room : length l.drafts.items ≤ l.made.spare;
       short : length l.made.cells + length l.drafts.items < 2 ^ 32;
-      all : l.made.cells ++ settled_all (held_beside_all back l.made.cells) l.drafts.items ≡ settled_all back l.initial.drafts.items
+      all : l.made.cells ++ settled_all (held_beside_all back l.made.cells) l.drafts.items ≡ settled_all back l.initial.drafts.items;
     }
 
 abbrev pub decreases-loop-draft : goal.decreases-loop-draft

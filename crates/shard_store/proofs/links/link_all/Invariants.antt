@@ -1,4 +1,4 @@
-use Rattle.std.proofs.Common.{ℕ, ◌≡◌, length}
+use Rattle.std.proofs.Common.{◌≡◌, length}
 use Rattle.shard_store.specs.Links.{tag_in, IsLinked}
 use Rattle.shard_store.proofs.links.link_all.Given as goal
 

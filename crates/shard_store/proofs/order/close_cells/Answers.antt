@@ -1,4 +1,4 @@
-use Rattle.std.proofs.Common.{◌≡◌, ℕ, ◌+◌, ◌<◌, ◌∷◌, List, length, drop, get_or, subst, sym, arith}
+use Rattle.std.proofs.Common.{ℕ, ◌+◌, ◌<◌, ◌∷◌, List, length, drop, get_or, subst, sym}
 use Rattle.std.proofs.lemmas.List.{drop_more}
 use Rattle.rec_id.specs.declared.item.Cell.{Cell}
 use Rattle.shard_store.specs.Places.{IsClosing}

@@ -1,4 +1,4 @@
-use Rattle.std.proofs.Common.{ℕ, ◌≡◌, ◌≤◌, length, map, drop}
+use Rattle.std.proofs.Common.{drop}
 use Rattle.shard_store.specs.Places.{IsClosing}
 use Rattle.shard_store.proofs.order.close_cells.Given as goal
 

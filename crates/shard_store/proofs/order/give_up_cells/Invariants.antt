@@ -1,4 +1,3 @@
-use Rattle.std.proofs.Common.{ℕ, ◌≡◌}
 use Rattle.shard_store.specs.Places.{IsGivenUp}
 use Rattle.shard_store.proofs.order.give_up_cells.Given as goal
 

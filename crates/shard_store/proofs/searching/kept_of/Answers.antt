@@ -1,4 +1,4 @@
-use Rattle.std.proofs.Common.{◌≡◌, sym, ap, ◌∙◌}
+use Rattle.std.proofs.Common.{sym, ◌∙◌}
 use Rattle.shard_store.proofs.Searches.{kept_found, kept_none}
 use Rattle.shard_store.proofs.searching.kept_of.Goals as goal
 

@@ -1,4 +1,4 @@
-use Rattle.std.proofs.Common.{ℕ, ◌≡◌, take}
+use Rattle.std.proofs.Common.{◌≡◌, take}
 use Rattle.shard_store.proofs.settling.copy_all.Given as goal
 
 abbrev pub invariant-loop-i : goal.invariant-loop-i

@@ -1,7 +1,6 @@
-use Rattle.std.proofs.Common.{◌≡◌, ap, ◌∙◌, sym}
+use Rattle.std.proofs.Common.{ap, ◌∙◌, sym}
 use Rattle.rec_id.specs.declared.item.Body.{Body}
-use Rattle.rec_id.specs.declared.item.Body.TheVariants.{Open}
-use Rattle.shard_store.specs.Settling.{settled, settled_body, held_after}
+use Rattle.shard_store.specs.Settling.{settled_body}
 use Rattle.lazy_rules.specs.Store.{held_beside}
 use Rattle.shard_store.proofs.Holdings.{drawn_rest}
 use Rattle.shard_store.proofs.settling.settle.Goals as goal

@@ -1,4 +1,4 @@
-use Rattle.std.proofs.Common.{◌≡◌, ap, ◌∙◌, sym}
+use Rattle.std.proofs.Common.{ap, ◌∙◌}
 use Rattle.lazy_rules.specs.Store.{held_bytes}
 use Rattle.shard_store.specs.Holding.{Holding}
 use Rattle.shard_store.proofs.Holdings.{no_bytes_absent, distinct_push}

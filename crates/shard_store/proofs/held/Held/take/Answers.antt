@@ -1,4 +1,4 @@
-use Rattle.std.proofs.Common.{◌≡◌, List, None, Some, true, false, not, ap, ◌∙◌, sym}
+use Rattle.std.proofs.Common.{◌≡◌, List, None, Some, false, not, ap, ◌∙◌, sym}
 use Rattle.std.specs.List.{position}
 use Rattle.lazy_rules.specs.Ids.{same_id}
 use Rattle.lazy_rules.specs.Store.{held_bytes, without_held}

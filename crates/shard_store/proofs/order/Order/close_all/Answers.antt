@@ -1,8 +1,8 @@
-use Rattle.std.proofs.Common.{◌≡◌, ℕ, ◌≤◌, [], List, length, map, subst, sym, ap, ◌∙◌, arith}
+use Rattle.std.proofs.Common.{◌≡◌, ℕ, ◌≤◌, [], List, length, map, subst, ap, ◌∙◌, arith}
 use Rattle.std.specs.List.{filter}
 use Rattle.std.proofs.lemmas.List.{take_at}
 use Rattle.rec_id.specs.declared.item.Cell.{Cell}
-use Rattle.lazy_rules.specs.Store.{is_open, closed_cell}
+use Rattle.lazy_rules.specs.Store.{closed_cell}
 use Rattle.shard_store.specs.Places.{Places, IsClosing}
 use Rattle.shard_store.proofs.Closing.{is_open_cell, indexed_all_closed, closing_end, length-open_from, open_few}
 use Rattle.shard_store.proofs.order.Order.close_all.Goals as goal

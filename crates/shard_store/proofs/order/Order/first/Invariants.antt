@@ -1,7 +1,4 @@
-use Rattle.std.proofs.Common.{ℕ, ◌≡◌, ◌<◌, ◌≤◌, ◌-◌, length}
-use Rattle.lazy_rules.specs.Store.{is_cell_of}
-use Rattle.shard_store.specs.Kinds.{is_of}
-use Rattle.shard_store.specs.Links.{bucket, tag_in}
+use Rattle.std.proofs.Common.{length}
 use Rattle.shard_store.proofs.FirstPlace.{IsWalked}
 use Rattle.shard_store.proofs.order.Order.first.Given as goal
 

@@ -1,4 +1,4 @@
-use Rattle.std.proofs.Common.{◌≡◌, ℕ, List, ap, ◌∙◌}
+use Rattle.std.proofs.Common.{ℕ, List, ap, ◌∙◌}
 use Rattle.std.specs.List.{position, slice_get}
 use Rattle.shard_store.specs.Places.{Places}
 use Rattle.shard_store.proofs.Closing.{is_open_cell, first_open_place}

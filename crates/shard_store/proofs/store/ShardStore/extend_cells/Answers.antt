@@ -1,4 +1,4 @@
-use Rattle.std.proofs.Common.{◌≡◌, ℕ, ◌≤◌, List, ◌++◌, length, subst, sym, ap, ◌∙◌, arith}
+use Rattle.std.proofs.Common.{◌≡◌, List, ◌++◌, sym, ap, ◌∙◌}
 use Rattle.rec_id.specs.declared.item.Cell.{Cell}
 use Rattle.lazy_rules.specs.Store.{Store, extend_cells}
 use Rattle.shard_store.specs.Settling.{held_beside_all}

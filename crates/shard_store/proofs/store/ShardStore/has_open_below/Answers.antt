@@ -1,4 +1,4 @@
-use Rattle.std.proofs.Common.{◌≡◌, sym, ap, ◌∙◌}
+use Rattle.std.proofs.Common.{sym, ap, ◌∙◌}
 use Rattle.lazy_rules.specs.Store.{Store, has_open_below}
 use Rattle.shard_store.proofs.Closing.{is_open_cell}
 use Rattle.shard_store.proofs.Searches.{below_some, below_none}

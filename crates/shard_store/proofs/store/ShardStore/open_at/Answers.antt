@@ -1,4 +1,4 @@
-use Rattle.std.proofs.Common.{◌≡◌, ap, ◌∙◌}
+use Rattle.std.proofs.Common.{ap, ◌∙◌}
 use Rattle.lazy_rules.specs.Store.{Store, open_at}
 use Rattle.shard_store.proofs.Searches.{first_is_open}
 use Rattle.shard_store.proofs.store.ShardStore.open_at.Goals as goal

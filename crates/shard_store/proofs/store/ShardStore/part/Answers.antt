@@ -1,10 +1,9 @@
-use Rattle.std.proofs.Common.{◌≡◌, ℕ, ◌+◌, ◌-◌, ◌<◌, ◌≤◌, ◌++◌, List, Option, length, get_or, take, drop, inl, inr, sym, ap, ◌∙◌, arith}
+use Rattle.std.proofs.Common.{◌≡◌, ℕ, ◌-◌, ◌<◌, ◌++◌, List, Option, length, get_or, take, drop, inl, inr, sym, ap, ◌∙◌, arith}
 use Rattle.std.specs.List.{between}
 use Rattle.std.proofs.lemmas.Bool.{cases_lt}
 use Rattle.std.proofs.lemmas.Option.{get_or_from_slice_get}
 use Rattle.rec_id.specs.declared.entry.Entry.{Entry}
-use Rattle.rec_id.specs.declared.item.Cell.{Cell}
-use Rattle.lazy_rules.specs.Store.{Store, entry_in, placed_entry, entries_from, part}
+use Rattle.lazy_rules.specs.Store.{Store, placed_entry, entries_from, part}
 use Rattle.shard_store.proofs.Keeping.{entries_more}
 use Rattle.shard_store.proofs.store.ShardStore.part.Goals as goal
 

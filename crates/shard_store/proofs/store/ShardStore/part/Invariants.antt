@@ -1,4 +1,4 @@
-use Rattle.std.proofs.Common.{ℕ, ◌≡◌, ◌≤◌}
+use Rattle.std.proofs.Common.{◌≡◌, ◌≤◌}
 use Rattle.std.specs.Prelude.{slice_range}
 use Rattle.lazy_rules.specs.Store.{entries_from}
 use Rattle.shard_store.proofs.store.ShardStore.part.Given as goal

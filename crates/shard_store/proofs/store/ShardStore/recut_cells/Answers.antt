@@ -1,11 +1,8 @@
-use Rattle.std.proofs.Common.{◌≡◌, ℕ, ◌+◌, ◌^◌, ◌<◌, ◌≤◌, List, ◌++◌, length, take, drop, subst, sym, ap, ◌∙◌, arith}
-use Rattle.std.proofs.lemmas.List.{length-take-le}
+use Rattle.std.proofs.Common.{◌≡◌, List, ◌++◌, take, drop, sym, ap, ◌∙◌}
 use Rattle.rec_id.specs.declared.item.Cell.{Cell}
-use Rattle.lazy_rules.specs.Store.{Store, cut, recut, recut_cells}
-use Rattle.shard_store.specs.Settling.{drafts, settled_all, held_beside_all, given_back}
-use Rattle.shard_store.specs.Sound.{IsSound}
-use Rattle.shard_store.proofs.Extending.{Pairs, grown, count_drafts, cut_is, recut_is, recut_cells_is}
-use Rattle.shard_store.proofs.Keeping.{sound_recut}
+use Rattle.lazy_rules.specs.Store.{Store, recut_cells}
+use Rattle.shard_store.specs.Settling.{held_beside_all, given_back}
+use Rattle.shard_store.proofs.Extending.{Pairs, grown, recut_cells_is}
 use Rattle.shard_store.proofs.store.ShardStore.recut_cells.Goals as goal
 
 pub returns-clause-ok : goal.returns-clause-ok

@@ -1,4 +1,4 @@
-use Rattle.std.proofs.Common.{◌≡◌, ℕ, ◌≤◌, subst, sym, ap, ◌∙◌, arith}
+use Rattle.std.proofs.Common.{subst, ap, ◌∙◌, arith}
 use Rattle.lazy_rules.specs.Store.{Store, trim}
 use Rattle.shard_store.specs.Sound.{IsSound}
 use Rattle.shard_store.proofs.Keeping.{trim_is, trim_none}
