@@ -1,0 +1,12 @@
+pub mod LinkLemmas
+pub mod FirstPlace
+pub mod Indexed
+pub mod Positions
+pub mod Identities
+pub mod Holdings
+pub mod Closing
+pub mod Searches
+pub mod Extending
+pub mod Keeping
+pub mod Fronts
+pub mod Forecasts

@@ -1,0 +1,13 @@
+use Rattle.std.proofs.Common.{◌≡◌, ◌≤◌, length}
+use Rattle.shard_store.proofs.Fronts.{IsFront}
+use Rattle.shard_store.proofs.cutting.drop_from.Given as goal
+
+abbrev pub invariant-loop-order : goal.invariant-loop-order
+invariant-loop-order l = record {
+  within : l.from ≤ length l.order.cells;
+  front : IsFront l.order.cells l.initial.order.cells;
+  spare : l.order.spare ≡ l.initial.order.spare;
+}
+
+abbrev pub decreases-loop-order : goal.decreases-loop-order
+decreases-loop-order l = length l.order.cells
