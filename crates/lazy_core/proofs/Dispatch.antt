@@ -1,4 +1,4 @@
-use Rattle.std.proofs.Common.{◌≡◌, ◌≢◌, ℕ, zero, suc, ◌+◌, ◌-◌, ◌<◌, ◌≤◌, List, [], ◌∷◌, length, Bool, true, false, ◌==◌, All, Option, Result, None, Some, Ok, Err, refl, ap, sym, subst, ◌∙◌, arith, get_or, if◌then◌else◌}
+use Rattle.std.proofs.Common.{◌≡◌, ◌≢◌, ℕ, zero, suc, ◌-◌, ◌<◌, List, [], ◌∷◌, length, Bool, true, false, ◌==◌, All, Option, Result, None, Some, Err, refl, subst, arith, if◌then◌else◌}
 use Rattle.std.specs.List.{slice_get}
 use Rattle.std.proofs.lemmas.Bool.Decides.{nat_tests}
 use Rattle.std.proofs.lemmas.List.Elements.{All-head, All-tail}
@@ -10,14 +10,14 @@ use Rattle.lazy_msgs.specs.declared.msg.Envelope.{Envelope}
 use Rattle.lazy_msgs.specs.declared.msg.Msg.{Msg}
 use Rattle.lazy_msgs.specs.declared.msg.Msg.TheVariants.{Append, AppendAck}
 use Rattle.lazy_msgs.specs.declared.refused.EventRefused.{EventRefused}
-use Rattle.lazy_msgs.specs.declared.refused.EventRefused.TheVariants.{Crashed, Spent, Memory}
+use Rattle.lazy_msgs.specs.declared.refused.EventRefused.TheVariants.{Crashed, Spent}
 use Rattle.lazy_rules.specs.ClientState.{ClientState, first_client}
 use Rattle.lazy_rules.specs.ClientRules.{client_took, invokes, post_refusal}
 use Rattle.lazy_rules.specs.Rows.{has_node}
 use Rattle.lazy_rules.specs.SeqState.{SeqState, first_seq}
 use Rattle.lazy_rules.specs.SeqRules.{seq_took}
 use Rattle.lazy_rules.specs.WorldState.{WorldState}
-use Rattle.lazy_rules.specs.WorldRules.{received, client_did, seq_did, posted, post_refused_at, posting_refused, delivered, delivery_refused, delivery_to_refused, envelope_at, message_at}
+use Rattle.lazy_rules.specs.WorldRules.{received, client_did, seq_did, posted, post_refused_at, posting_refused, delivery_to_refused, message_at}
 use Rattle.lazy_core.specs.Early.{IsSound, IsSeqNode, IsDue, IsEarly}
 use Rattle.lazy_core.specs.Happens.{HappensIn, IsWithinRoom}
 

@@ -1,10 +1,10 @@
-use Rattle.std.proofs.Common.{◌≡◌, ℕ, ◌+◌, ◌<◌, ◌≤◌, List, [], ◌∷◌, ◌++◌, length, map, not, All, refl, ap, sym, ◌∙◌, arith, get_or}
-use Rattle.std.specs.List.{range_with_len, filter}
-use Rattle.std.proofs.lemmas.List.Elements.{All-nil, All-append, All-map, All-filter, All-same, All-get_or}
+use Rattle.std.proofs.Common.{◌≡◌, ℕ, ◌<◌, [], not, All, ap, ◌∙◌, arith}
+use Rattle.std.specs.List.{range_with_len}
+use Rattle.std.proofs.lemmas.List.Elements.{All-map, All-filter, All-same}
 use Rattle.std.proofs.lemmas.List.FromFn.{length-range_with_len, get_or-range_with_len}
 use Rattle.view_config.specs.declared.config.Config.{Config}
 use Rattle.view_config.specs.declared.edition.Mode.TheVariants.{M}
-use Rattle.view_config.specs.Config.{initial_config, first_seqs}
+use Rattle.view_config.specs.Config.{first_seqs}
 use Rattle.view_config.specs.Nodes.{seq_id}
 use Rattle.view_config.specs.Shape.{Dimensions}
 use Rattle.lazy_msgs.specs.declared.msg.Msg.{Msg}

@@ -5,7 +5,7 @@ use Rattle.std.proofs.lemmas.List.Folds.{Any-from_list_any}
 use Rattle.view_config.specs.Config.{first_seqs}
 use Rattle.lazy_rules.specs.Rows.{has_node}
 use Rattle.lazy_rules.specs.WorldState.{WorldState}
-use Rattle.lazy_core.specs.Early.{IsSound, IsSeqNode, holders_of}
+use Rattle.lazy_core.specs.Early.{IsSeqNode, holders_of}
 use Rattle.lazy_core.proofs.Due.{seqs_due}
 
 -- what holds of all nodes of a list holds of one that is in it

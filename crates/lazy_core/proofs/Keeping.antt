@@ -1,4 +1,4 @@
-use Rattle.std.proofs.Common.{◌≡◌, ℕ, ◌+◌, ◌-◌, ◌<◌, ◌≤◌, List, [], length, All, Option, Some, refl, arith, get_or, subst, sym}
+use Rattle.std.proofs.Common.{◌≡◌, ℕ, ◌+◌, ◌<◌, ◌≤◌, List, length, Option, arith, get_or}
 use Rattle.std.proofs.Math.ListN.{set}
 use Rattle.std.proofs.lemmas.List.Elements.{All-nil, All-get_or}
 use Rattle.rec_id.specs.Identity.{Identity}
@@ -10,7 +10,7 @@ use Rattle.lazy_rules.specs.SeqState.{SeqState}
 use Rattle.lazy_rules.specs.SeqRules.{seq_took}
 use Rattle.lazy_rules.specs.WorldState.{WorldState}
 use Rattle.lazy_rules.specs.WorldRules.{client_did, seq_did, messages_limit}
-use Rattle.lazy_core.specs.Early.{IsSound, IsSeqNode, IsInFirstView, IsDue}
+use Rattle.lazy_core.specs.Early.{IsSound, IsInFirstView, IsDue}
 use Rattle.lazy_core.specs.Happens.{IsWithinRoom}
 use Rattle.lazy_core.proofs.Rows.{append_leaves, ack_notes}
 use Rattle.lazy_core.proofs.Soundness.{sound_client, sound_seq, sound_stepped}

@@ -8,3 +8,4 @@ pub mod Rows
 pub mod Posting
 pub mod Soundness
 pub mod Steps
+pub mod Reaching

@@ -1,5 +1,5 @@
-use Rattle.std.proofs.Common.{◌≡◌, ℕ, ◌<◌, [], Bool, true, List, length, Option, Some, get_or, ◌==◌}
-use Rattle.std.specs.List.{slice_get, position}
+use Rattle.std.proofs.Common.{◌≡◌, ℕ, [], Some, get_or, ◌==◌}
+use Rattle.std.specs.List.{slice_get}
 use Rattle.std.proofs.lemmas.Bool.{eqb-true}
 use Rattle.std.proofs.lemmas.List.Quantifiers.{position-Some}
 use Rattle.std.proofs.lemmas.Option.{slice_get-get_or}

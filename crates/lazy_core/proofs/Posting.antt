@@ -1,4 +1,4 @@
-use Rattle.std.proofs.Common.{◌≡◌, ◌≢◌, ℕ, ◌+◌, ◌<◌, ◌≤◌, List, length, All, Option, Result, None, Some, Ok, Err, refl, ap, sym, subst, ◌∙◌, arith, get_or}
+use Rattle.std.proofs.Common.{◌≡◌, ◌≢◌, ℕ, ◌+◌, ◌<◌, ◌≤◌, List, length, Result, None, Some, Ok, Err, refl, ap, subst, ◌∙◌, arith, get_or}
 use Rattle.std.specs.List.{slice_get}
 use Rattle.std.specs.Result.{IsErrAnd}
 use Rattle.std.proofs.Math.ListN.{set}
@@ -10,11 +10,11 @@ use Rattle.lazy_msgs.specs.declared.refused.PostRefused.{PostRefused}
 use Rattle.lazy_msgs.specs.declared.refused.PostRefused.TheVariants.{Over as PostOver, Memory as PostMemory}
 use Rattle.lazy_msgs.specs.Outbox.{Out, Fits, put_on}
 use Rattle.lazy_msgs.specs.Refused.{event_post_refused}
-use Rattle.lazy_msgs.specs.Step.{Row, StepsTo}
+use Rattle.lazy_msgs.specs.Step.{StepsTo}
 use Rattle.lazy_rules.specs.ClientState.{ClientState}
 use Rattle.lazy_rules.specs.ClientRules.{invokes, begun, post_refusal}
 use Rattle.lazy_rules.specs.WorldState.{WorldState}
-use Rattle.lazy_rules.specs.WorldRules.{client_did, posting_refused, step_time, sent_weight, weight_limit, messages_limit, IsWithinLimits}
+use Rattle.lazy_rules.specs.WorldRules.{client_did, posting_refused, step_time, sent_weight, weight_limit, messages_limit}
 use Rattle.lazy_core.specs.Early.{IsSound, IsInFirstView}
 use Rattle.lazy_core.specs.Happens.{HappensIn, IsWithinRoom}
 use Rattle.lazy_core.specs.Ledger.{LedgerState, Keeps, Adds}

@@ -1,4 +1,4 @@
-use Rattle.std.proofs.Common.{◌≡◌, ℕ, ◌<◌, List, [], ◌∷◌, Bool, true, false, not, All, Option, None, Some, refl, arith, if◌then◌else◌}
+use Rattle.std.proofs.Common.{◌≡◌, ℕ, ◌<◌, List, [], Bool, true, false, All, Option, None, Some, refl, arith, if◌then◌else◌}
 use Rattle.std.specs.List.{slice_get}
 use Rattle.std.proofs.lemmas.Bool.Decides.{nat_tests}
 use Rattle.std.proofs.lemmas.List.Elements.{All-nil, All-cons}
@@ -8,12 +8,11 @@ use Rattle.lazy_msgs.specs.declared.msg.Msg.{Msg}
 use Rattle.lazy_msgs.specs.declared.msg.Msg.TheVariants.{Append, AppendAck}
 use Rattle.lazy_msgs.specs.Step.{Row}
 use Rattle.lazy_rules.specs.ClientState.{ClientState, OpenAppend}
-use Rattle.lazy_rules.specs.ClientRules.{client_took, on_append_ack, acknowledged, acknowledged_at, acknowledges, finishes, noted, is_complete, place_of}
+use Rattle.lazy_rules.specs.ClientRules.{client_took, on_append_ack, acknowledged, acknowledged_at, acknowledges, noted, is_complete, place_of}
 use Rattle.lazy_rules.specs.Door.{is_turned_away}
-use Rattle.lazy_rules.specs.Rows.{stays, answers, has_node}
+use Rattle.lazy_rules.specs.Rows.{stays, answers}
 use Rattle.lazy_rules.specs.SeqState.{SeqState}
-use Rattle.lazy_rules.specs.SeqRules.{seq_took, on_append, is_active, has_room, with_item}
-use Rattle.lazy_rules.specs.Windows.{has_seen}
+use Rattle.lazy_rules.specs.SeqRules.{seq_took, on_append, with_item}
 use Rattle.lazy_core.specs.Early.{IsDue, IsInFirstView}
 
 -- what holds of both outcomes of a test holds of the one that it chooses

@@ -1,4 +1,4 @@
-use Rattle.std.proofs.Common.{◌≡◌, ◌≢◌, ℕ, ◌+◌, ◌-◌, ◌<◌, ◌≤◌, List, [], ◌∷◌, ◌++◌, length, map, max, sum_by, Option, Result, None, Some, Ok, Err, refl, ap, sym, get_or, ◌∙◌, arith, slice_index, slice_set, length-append}
+use Rattle.std.proofs.Common.{◌≡◌, ◌≢◌, ℕ, ◌+◌, ◌-◌, ◌≤◌, List, [], ◌++◌, length, Option, Result, None, Some, Ok, Err, refl, ap, get_or, ◌∙◌, arith, slice_set, length-append}
 use Rattle.std.specs.Result.{IsErrAnd}
 use Rattle.std.specs.List.{slice_get}
 use Rattle.std.proofs.Math.ListN.{set}
@@ -6,11 +6,10 @@ use Rattle.std.proofs.lemmas.Option.{get_or_from_slice_get}
 use Rattle.std.proofs.lemmas.List.{length-map, set-get_or}
 use Rattle.std.proofs.lemmas.List.Folds.{fold-map}
 use Rattle.std.proofs.lemmas.List.Sums.{sum_by-append}
-use Rattle.rec_id.specs.declared.event.Event.{Event}
 use Rattle.lazy_msgs.specs.declared.msg.Envelope.{Envelope}
 use Rattle.lazy_msgs.specs.declared.msg.Msg.{Msg}
 use Rattle.lazy_msgs.specs.declared.refused.EventRefused.{EventRefused}
-use Rattle.lazy_msgs.specs.declared.refused.EventRefused.TheVariants.{Spent, Memory}
+use Rattle.lazy_msgs.specs.declared.refused.EventRefused.TheVariants.{Memory}
 use Rattle.lazy_msgs.specs.declared.refused.PostRefused.{PostRefused}
 use Rattle.lazy_msgs.specs.declared.refused.PostRefused.TheVariants.{TooLong, NumbersSpent, WindowFull, Over as PostOver, Memory as PostMemory}
 use Rattle.lazy_msgs.specs.declared.refused.StepRefused.{StepRefused}
@@ -22,7 +21,7 @@ use Rattle.lazy_msgs.specs.Weight.{weight_of, sends_weight}
 use Rattle.lazy_rules.specs.ClientState.{ClientState}
 use Rattle.lazy_rules.specs.SeqState.{SeqState}
 use Rattle.lazy_rules.specs.WorldState.{WorldState}
-use Rattle.lazy_rules.specs.WorldRules.{enveloped, stepped, client_did, seq_did, posting_refused, sent_weight, weight_limit}
+use Rattle.lazy_rules.specs.WorldRules.{enveloped, client_did, seq_did, posting_refused, sent_weight, weight_limit}
 use Rattle.lazy_core.specs.Happens.{HappensIn, IsWithinRoom}
 use Rattle.lazy_core.specs.Ledger.{LedgerState, Keeps, Adds}
 

@@ -2,12 +2,8 @@ use Rattle.std.specs.Prelude.{◌≡◌, ℕ, ◌+◌, ◌<◌, ◌≤◌, List,
 use Rattle.rec_id.specs.declared.entry.Entry.{Entry}
 use Rattle.rec_id.specs.declared.entry.Entry.TheVariants.{Kept}
 use Rattle.rec_id.specs.declared.item.Item.{Item}
-use Rattle.rec_id.specs.Identity.{Identity}
-use Rattle.view_config.specs.declared.edition.Mode.TheVariants.{M}
 use Rattle.view_config.specs.Config.{initial_config, first_seqs}
 use Rattle.view_config.specs.Shape.{Dimensions, IsShape}
-use Rattle.lazy_msgs.specs.declared.input.WorldEvent.{WorldEvent}
-use Rattle.lazy_msgs.specs.declared.input.WorldEvent.TheVariants.{Post, Deliver}
 use Rattle.lazy_msgs.specs.declared.msg.Envelope.{Envelope}
 use Rattle.lazy_msgs.specs.declared.msg.Msg.{Msg}
 use Rattle.lazy_msgs.specs.declared.msg.Msg.TheVariants.{Append, AppendAck}
@@ -18,12 +14,6 @@ use Rattle.lazy_rules.specs.WorldRules.{IsWithinLimits}
 use Rattle.lazy_rules.specs.WorldState.{WorldState, node_count}
 
 -- Worlds in which nothing but appends has happened yet, in Erwin-m.
-
--- an event that has its body: a post or a delivery, in Erwin-m
-abbrev pub IsBuilt : Dimensions → WorldEvent → Type 0
-IsBuilt shape (Post c bytes) = shape.mode ≡ M
-IsBuilt shape (Deliver k) = shape.mode ≡ M
-IsBuilt shape _ = ⊥
 
 -- a sequencing replica of the shape has this number
 pub record IsSeqNode (shape : Dimensions) (node : ℕ) : Type 0 where

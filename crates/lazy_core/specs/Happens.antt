@@ -1,7 +1,7 @@
 use Rattle.std.specs.Prelude.{◌≡◌, ◌≢◌, ℕ, ◌+◌, ◌≤◌, length, Option, Some, None, Result, Err, OnOk, OnErr, IfErr}
 use Rattle.lazy_msgs.specs.declared.refused.EventRefused.{EventRefused}
 use Rattle.lazy_msgs.specs.declared.refused.EventRefused.TheVariants.{Spent, Memory}
-use Rattle.lazy_rules.specs.WorldRules.{IsWithinLimits, weight_limit, sent_weight}
+use Rattle.lazy_rules.specs.WorldRules.{weight_limit, sent_weight}
 use Rattle.lazy_rules.specs.WorldState.{WorldState}
 
 -- so many messages more were sent at most, and all weigh no more than a world's may

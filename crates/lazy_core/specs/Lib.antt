@@ -3,3 +3,4 @@ pub mod Early
 pub mod Happens
 pub mod Ledger
 pub mod WorldView
+pub mod Reached

@@ -4,7 +4,7 @@ use Rattle.view_config.specs.Shape.{Dimensions}
 use Rattle.lazy_rules.specs.ControlState.{first_control}
 use Rattle.lazy_rules.specs.ReaderState.{ReaderState, first_reader}
 use Rattle.lazy_rules.specs.ShardState.{ShardState}
-use Rattle.lazy_core.specs.declared.world.World.TheInside.{Inside}
+use Rattle.lazy_core.specs.declared.nodes.Nodes.TheInside.{Inside}
 use Rattle.lazy_core.specs.Early.{IsSound}
 use Rattle.lazy_rules.specs.WorldState.{WorldState, first_shard_at}
 

@@ -11,11 +11,13 @@ ghost use Rattle.lazy_rules.specs.SeqRules.{seq_took};
 ghost use Rattle.view_config.specs.Shape.{node_of};
 ghost use Rattle.lazy_msgs.specs.declared.input.WorldEvent.TheVariants.{Post, Deliver};
 ghost use Rattle.lazy_msgs.specs.declared.msg.Msg.TheVariants.{Append, AppendAck};
-ghost use Rattle.lazy_core.specs.Early.{IsBuilt, IsSeqNode, IsEarly};
+ghost use Rattle.log_safety.specs.Built.{IsBuilt};
+ghost use Rattle.lazy_core.specs.Early.{IsSeqNode, IsEarly};
 ghost use Rattle.lazy_rules.specs.WorldRules.{IsWithinLimits, after, refusal, received, delivery_to_refused, client_did, seq_did, posting_refused, messages_limit};
 ghost use Rattle.lazy_core.specs.Happens.{HappensIn, IsWithinRoom};
 
-use crate::{MESSAGES_LIMIT, World};
+use crate::MESSAGES_LIMIT;
+use crate::nodes::Nodes;
 use lazy_msgs::{Envelope, EventRefused, Msg, WorldEvent};
 use rec_id::{Bytes, RecordId};
 
@@ -24,7 +26,7 @@ const FIRST_ROOM: u32 = 64;
 
 const ROOM_GROWTH: u32 = 16;
 
-impl World {
+impl Nodes {
     /// A client of the shape, which isn't crashed, appends `bytes`.
     fn take_post(&mut self, c: u32, bytes: &Bytes, room: u32) -> Result<(), EventRefused>
         requires there { c < length self.old.clients }
@@ -148,7 +150,7 @@ impl World {
     /// One event. It is refused in the order of [`EventRefused`], and then nothing is changed.
     ///
     /// An event rarely sends many messages, so it is tried with little room first.
-    pub fn event(&mut self, event: &WorldEvent) -> Result<(), EventRefused>
+    pub(crate) fn event(&mut self, event: &WorldEvent) -> Result<(), EventRefused>
         requires built { IsBuilt self.old.shape event.now }
         requires countable { self.old.events + 1 < 2 ^ 32 }
         ensures { HappensIn (IsWithinLimits (after self.old event.now)) (after self.old event.now) (refusal self.old event.now) self.old self.new result }

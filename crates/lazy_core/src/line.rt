@@ -5,7 +5,7 @@ ghost use Rattle.lazy_rules.specs.Rows.{has_node};
 ghost use Rattle.lazy_rules.specs.SeqState.{SeqState};
 ghost use Rattle.lazy_core.specs.Early.{IsSeqNode, holders_of, line_of, entry_of, bytes_of};
 
-use crate::World;
+use crate::nodes::Nodes;
 use plain_lists::Sequence;
 use rec_id::{Bytes, Entry, Item, Line};
 use std::alloc::{AllocError, Global};
@@ -64,10 +64,10 @@ fn alive(alloc: Global, nodes: &[u32], crashed: &[u32]) -> Result<NodeList, Allo
     Ok(left)
 }
 
-impl World {
+impl Nodes {
     /// The nodes that hold the log: the sequencing replicas of the latest started view that
     /// aren't crashed, in its order.
-    pub fn holders(&self) -> Result<NodeList, AllocError>
+    pub(crate) fn holders(&self) -> Result<NodeList, AllocError>
         ensures { IfOk result (λ nodes. nodes ≡ holders_of self.now) }
     {
         let alloc = *self.crashed.allocator();
@@ -77,7 +77,7 @@ impl World {
 
     /// The log, as this holder has it. Nothing is bound in such a world, and no node crashed, so
     /// that no line is lost.
-    pub fn line(&self, holder: u32) -> Result<Line, LineError>
+    pub(crate) fn line(&self, holder: u32) -> Result<Line, LineError>
         requires { has_node (holders_of self.now) holder ≡ true }
         ensures line { (seq : SeqState) → slice_get self.now.seqs (holder - 257) ≡ Some seq → IfOk result (λ line. line ≡ line_of seq) }
         ensures never_lost { IfErr result (λ e. e ≡ LineError.Memory) }

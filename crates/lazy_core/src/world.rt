@@ -1,34 +1,33 @@
-//! A world: all nodes of a log, every message ever sent, and what the clients did and were told.
+//! A world: all nodes of a log, every message ever sent, and what the clients did and were told, as
+//! some list of events led to it. What such a list leads to is lawful, and so every world is.
 //!
-//! `event.rt` has what an event does to it.
+//! `nodes.rt` has what a world is made of, `event.rt` what an event does to it, `line.rt` who holds
+//! the log.
 
-ghost use Rattle.std.specs.Prelude.{◌≡◌, ◌+◌, ◌≤◌, length, map, IfOk, option_copied};
-ghost use Rattle.std.specs.List.{range_with_len};
-ghost use Rattle.view_config.specs.Shape.{IsShape};
-ghost use Rattle.lazy_rules.specs.ClientState.{first_client};
-ghost use Rattle.lazy_rules.specs.SeqState.{first_seq};
+ghost use Rattle.std.specs.Prelude.{◌≡◌, ◌≢◌, ◌+◌, ◌<◌, ◌≤◌, ◌^◌, ◌++◌, [], ◌∷◌, ℕ, List, Ok, Err, true, length, IfOk, IfErr, OnOk, option_copied};
+ghost use Rattle.rec_id.specs.Lawful.{Lawful};
+ghost use Rattle.lazy_msgs.specs.declared.input.WorldEvent.{WorldEvent};
+ghost use Rattle.lazy_rules.specs.Holders.{holders};
+ghost use Rattle.lazy_rules.specs.Lines.{line_told};
+ghost use Rattle.lazy_rules.specs.Rows.{has_node};
 ghost use Rattle.lazy_rules.specs.WorldState.{first_world};
-ghost use Rattle.lazy_rules.specs.WorldRules.{message_at};
+ghost use Rattle.lazy_rules.specs.WorldRules.{IsWithinLimits, after, message_at, refusal, run};
+ghost use Rattle.log_safety.specs.Built.{IsBuilt};
+ghost use Rattle.lazy_core.specs.Happens.{HappensIn};
+ghost use Rattle.lazy_core.specs.declared.line.LineError.{LineError};
 
-use crate::ledger::Ledger;
-use crate::{AppendClient, SeqNode};
-use lazy_msgs::Envelope;
-use rec_id::Event;
+use crate::nodes::Nodes;
+use crate::{LineError, MESSAGES_LIMIT};
+use lazy_msgs::{Envelope, EventRefused, WorldEvent};
+use rec_id::{Event, Line};
 use std::alloc::{AllocError, Global};
 use std::marker::Model;
-use view_config::Shape;
-
-/// How many messages a world has at most.
-pub const MESSAGES_LIMIT: u32 = 1_048_576;
+use view_config::{NodeList, Shape};
 
 /// The nodes of a shape and all that happened among them.
 #[derive(Drop)]
 pub struct World {
-    pub(crate) shape: Shape,
-    pub(crate) clients: Vec<AppendClient>,
-    pub(crate) seqs: Vec<SeqNode>,
-    pub(crate) crashed: Vec<u32>,
-    pub(crate) ledger: Ledger,
+    nodes: Nodes,
 }
 
 impl Model for World {
@@ -36,35 +35,11 @@ impl Model for World {
 
     ghost Value = { WorldState };
 
-    ghost use Rattle.lazy_core.specs.WorldView.{world_of, IsKept};
+    ghost use Rattle.lazy_core.specs.Reached.{IsReached};
 
-    ghost view = { world_of };
+    ghost view = { λ world. world.nodes };
 
-    ghost invariant = { IsKept };
-}
-
-#[tactic(auto, using(view_config::proofs::Ranges::first_more))]
-fn first_clients(alloc: Global, shape: &Shape) -> Result<Vec<AppendClient>, AllocError>
-    ensures made { IfOk result (λ made. made.items ≡ map (first_client shape.now) (range_with_len 0 shape.now.clients)) }
-    ensures valid { IsShape shape.now }
-{
-    let mut made = Vec::with_capacity(alloc, shape.clients as usize)?;
-    for client in 0..shape.clients {
-        made.push(AppendClient::new(alloc, shape, client)?)?;
-    }
-    Ok(made)
-}
-
-#[tactic(auto, using(view_config::proofs::Ranges::first_more))]
-fn first_seqs(alloc: Global, shape: &Shape) -> Result<Vec<SeqNode>, AllocError>
-    ensures { IfOk result (λ made. made.items ≡ map (first_seq shape.now) (range_with_len 0 (shape.now.seq + shape.now.spares))) }
-{
-    let count = shape.seq + shape.spares;
-    let mut made = Vec::with_capacity(alloc, count as usize)?;
-    for index in 0..count {
-        made.push(SeqNode::new(alloc, shape, index)?)?;
-    }
-    Ok(made)
+    ghost invariant = { λ world. IsReached world.nodes };
 }
 
 impl World {
@@ -73,25 +48,30 @@ impl World {
         ensures { IfOk result (λ world. world ≡ first_world shape.now) }
     {
         Ok(World {
-            shape: *shape,
-            clients: first_clients(alloc, shape)?,
-            seqs: first_seqs(alloc, shape)?,
-            crashed: Vec::new(alloc),
-            ledger: Ledger::new(alloc)?,
+            nodes: Nodes::new(alloc, shape)?,
         })
+    }
+
+    /// One event. It is refused in the order of [`EventRefused`], and then nothing is changed.
+    pub fn event(&mut self, event: &WorldEvent) -> Result<(), EventRefused>
+        requires built { IsBuilt self.old.shape event.now }
+        requires countable { self.old.events + 1 < 2 ^ 32 }
+        ensures { HappensIn (IsWithinLimits (after self.old event.now)) (after self.old event.now) (refusal self.old event.now) self.old self.new result }
+    {
+        self.nodes.event(event)
     }
 
     pub fn shape(&self) -> &Shape
         ensures { result.now ≡ self.now.shape }
     {
-        &self.shape
+        self.nodes.shape()
     }
 
     /// What the clients did and were told, in order.
     pub fn history(&self) -> &[Event]
         ensures { result.now ≡ self.now.history }
     {
-        self.ledger.history()
+        self.nodes.history()
     }
 
     /// How many messages were sent.
@@ -99,20 +79,39 @@ impl World {
         ensures sent { result ≡ length self.now.sent }
         ensures within { result ≤ MESSAGES_LIMIT }
     {
-        self.ledger.sent() as u32
+        self.nodes.sent()
     }
 
     /// How many events were accepted.
     pub fn events(&self) -> u32
         ensures { result ≡ self.now.events }
     {
-        self.ledger.events()
+        self.nodes.events()
     }
 
     /// Message `k`, counted from 1 in the order of sending.
     pub fn message(&self, k: u32) -> Option<&Envelope>
         ensures { option_copied result ≡ message_at self.now k }
     {
-        self.ledger.message(k)
+        self.nodes.message(k)
+    }
+
+    /// The nodes that hold the log: the sequencing replicas of the latest started view that
+    /// aren't crashed, in its order.
+    pub fn holders(&self) -> Result<NodeList, AllocError>
+        ensures { IfOk result (λ nodes. nodes ≡ holders self.now) }
+    {
+        self.nodes.holders()
+    }
+
+    /// The log, as this holder has it, which is lawful for the history; `Lost` where a shard has no
+    /// replica left.
+    pub fn line(&self, holder: u32) -> Result<Line, LineError>
+        requires { has_node (holders self.now) holder ≡ true }
+        ensures told { IfOk result (λ line. line_told self.now holder ≡ Ok line) }
+        ensures lost { (shard : ℕ) → result ≡ Err (LineError.Lost shard) → line_told self.now holder ≡ Err shard }
+        ensures lawful { IfOk result (λ line. Lawful self.now.history line) }
+    {
+        self.nodes.line(holder)
     }
 }

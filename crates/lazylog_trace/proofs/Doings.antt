@@ -5,7 +5,6 @@ use Rattle.std.proofs.lemmas.List.FromFn.{take-map-range_with_len, length-map-ra
 use Rattle.lazy_msgs.specs.declared.input.WorldEvent.{WorldEvent}
 use Rattle.lazy_msgs.specs.declared.input.WorldEvent.TheVariants.{Deliver as DeliverEvent}
 use Rattle.rec_id.specs.declared.entry.Entry.{Entry}
-use Rattle.lazy_core.specs.Early.{line_of}
 use Rattle.lazy_rules.specs.SeqState.{SeqState}
 use Rattle.lazy_rules.specs.WorldState.{WorldState}
 use Rattle.lazy_rules.specs.WorldRules.{IsWithinLimits, after, run}
@@ -13,7 +12,7 @@ use Rattle.lazylog_trace.specs.declared.handling.Outcome.{Outcome}
 use Rattle.lazylog_trace.specs.declared.handling.Outcome.TheVariants.{Through, Spent}
 use Rattle.lazylog_trace.specs.declared.script.Command.{Command}
 use Rattle.lazylog_trace.specs.declared.script.Command.TheVariants.{Flow}
-use Rattle.lazylog_trace.specs.Doing.{Tries, Delivers, Does, deliveries, events_of, line_at}
+use Rattle.lazylog_trace.specs.Doing.{Tries, Delivers, Does, deliveries, events_of}
 
 -- a command of no event
 pub does_none : (command : Command) (w : WorldState) (outcome : Result Outcome AllocError) → events_of command ≡ [] → outcome ≢ Ok Spent → Does command w w outcome
@@ -69,8 +68,3 @@ does_all first last count before after_all outcome e d =
           let there : slice_get (deliveries first count) d.tried ≡ Some event = delivery_at first count d.tried (d.stopped spent) in
           rw (all, there) (d.spent spent);
     }
-
--- what a holder has that is there
-pub line_is : (seq : Option SeqState) (line : List Entry) → IsSome seq → ((s : SeqState) → seq ≡ Some s → line ≡ line_of s) → line ≡ line_at seq
-line_is None line there is = absurd cc
-line_is (Some s) line there is = is s refl

@@ -1,4 +1,4 @@
-use Rattle.std.specs.Prelude.{◌≡◌, ◌≢◌, ℕ, ◌+◌, ◌-◌, ◌<◌, ◌≤◌, List, [], ◌∷◌, ◌++◌, length, map, take, drop, nat_lt, if◌then◌else◌, Option, Some, None, IfSome, IsSome, true, slice_get, codes, Result, Ok}
+use Rattle.std.specs.Prelude.{◌≡◌, ◌≢◌, ℕ, ◌+◌, ◌-◌, ◌<◌, ◌≤◌, List, [], ◌∷◌, ◌++◌, length, map, take, drop, nat_lt, if◌then◌else◌, Option, Some, None, IfSome, true, slice_get, codes, Result, Ok, Err}
 use Rattle.std.specs.List.{range_with_len}
 use Rattle.std.specs.declared.alloc.AllocError.{AllocError}
 use Rattle.rec_id.specs.declared.event.Event.{Event}
@@ -6,16 +6,15 @@ use Rattle.lazy_msgs.specs.declared.input.WorldEvent.{WorldEvent}
 use Rattle.lazy_msgs.specs.declared.input.WorldEvent.TheVariants.{Post, Deliver as DeliverEvent}
 use Rattle.lazy_msgs.specs.declared.refused.EventRefused.{EventRefused}
 use Rattle.rec_id.specs.declared.entry.Entry.{Entry}
-use Rattle.lazy_core.specs.Early.{holders_of, line_of}
-use Rattle.lazy_rules.specs.Rows.{has_node}
-use Rattle.lazy_rules.specs.SeqState.{SeqState}
+use Rattle.lazy_rules.specs.Holders.{holders}
+use Rattle.lazy_rules.specs.Lines.{line_told}
 use Rattle.lazy_rules.specs.WorldState.{WorldState}
 use Rattle.lazy_rules.specs.WorldRules.{IsWithinLimits, after, happened, refusal, run}
 use Rattle.lazylog_trace.specs.declared.handling.Outcome.{Outcome}
 use Rattle.lazylog_trace.specs.declared.handling.Outcome.TheVariants.{Through, Spent}
 use Rattle.lazylog_trace.specs.declared.script.Command.{Command}
 use Rattle.lazylog_trace.specs.declared.script.Command.TheVariants.{Nothing, Append, Deliver, Flow, Lines}
-use Rattle.lazylog_trace.specs.Texts.{event_text, refused_text, no_client_text, line_text}
+use Rattle.lazylog_trace.specs.Texts.{event_text, refused_text, no_client_text, line_text, lost_text}
 
 -- a text as a line
 abbrev pub as_line : List ℕ → List ℕ
@@ -70,23 +69,18 @@ events_of (Deliver message) = DeliverEvent message ∷ []
 events_of (Flow first last) = deliveries first (last + 1 - first)
 events_of Lines = []
 
--- the world has each holder
-pub record AreThere (w : WorldState) : Type 0 where
-  pub there : (holder : ℕ) → has_node (holders_of w) holder ≡ true → IsSome (slice_get w.seqs (holder - 257))
+-- what is told of a holder: its line, or the shard that is lost
+abbrev pub told_text : ℕ → Result (List Entry) ℕ → List ℕ
+told_text holder (Ok line) = line_text holder line
+told_text holder (Err shard) = lost_text holder shard
 
--- the line that a replica has, nothing where the world lacks it
-abbrev pub line_at : Option SeqState → List Entry
-line_at None = []
-line_at (Some seq) = line_of seq
-
--- the line of a holder
 abbrev pub holder_line : WorldState → ℕ → List ℕ
-holder_line w holder = as_line (line_text holder (line_at (slice_get w.seqs (holder - 257))))
+holder_line w holder = as_line (told_text holder (line_told w holder))
 
 -- the line of each holder
 abbrev pub holder_lines : WorldState → List ℕ → List (List ℕ)
 holder_lines w [] = as_line (codes "no holder") ∷ []
-holder_lines w (holder ∷ holders) = map (holder_line w) (holder ∷ holders)
+holder_lines w (holder ∷ others) = map (holder_line w) (holder ∷ others)
 
 -- the lines that a command prints of itself
 abbrev pub own_lines : WorldState → Command → List (List ℕ)
@@ -94,7 +88,7 @@ own_lines w Nothing = []
 own_lines w (Append client bytes) = if nat_lt client 256 then refusal_lines (refusal w (Post client bytes)) else as_line (no_client_text client) ∷ []
 own_lines w (Deliver message) = refusal_lines (refusal w (DeliverEvent message))
 own_lines w (Flow first last) = []
-own_lines w Lines = holder_lines w (holders_of w)
+own_lines w Lines = holder_lines w (holders w)
 
 -- a command that a line can say
 abbrev pub IsInForm : Command → Type 0
@@ -111,5 +105,5 @@ pub record Does (command : Command) (before after_all : WorldState) (outcome : R
 
 -- what a command that was done prints: its own lines, and those of the events that it made
 pub record Prints (command : Command) (before after_all : WorldState) (lines lines_now : List (List ℕ)) (outcome : Result Outcome AllocError) : Type 0 where
-  pub through : AreThere before → outcome ≡ Ok Through → lines_now ≡ lines ++ (own_lines before command ++ event_lines (drop (length before.history) after_all.history))
+  pub through : outcome ≡ Ok Through → lines_now ≡ lines ++ (own_lines before command ++ event_lines (drop (length before.history) after_all.history))
   pub spent : outcome ≡ Ok Spent → lines_now ≡ lines ++ event_lines (drop (length before.history) after_all.history)

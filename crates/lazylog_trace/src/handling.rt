@@ -2,12 +2,13 @@
 
 ghost use Rattle.std.specs.Prelude.{◌≡◌, ◌+◌, ◌-◌, ◌*◌, ◌^◌, ◌<◌, ◌≤◌, ◌++◌, [], ◌∷◌, length, map, drop, true, OnOk, OnErr, Ok};
 ghost use Rattle.view_config.specs.declared.edition.Mode.TheVariants.{M};
-ghost use Rattle.lazy_core.specs.Early.{IsBuilt, holders_of};
+ghost use Rattle.log_safety.specs.Built.{IsBuilt};
+ghost use Rattle.lazy_rules.specs.Holders.{holders};
 ghost use Rattle.lazy_msgs.specs.declared.input.WorldEvent.TheVariants.{Deliver};
 ghost use Rattle.lazy_rules.specs.Rows.{has_node};
 ghost use Rattle.lazylog_trace.specs.declared.handling.Outcome.TheVariants.{Through, Spent};
 ghost use Rattle.lazylog_trace.specs.declared.script.Command.TheVariants.{Append};
-ghost use Rattle.lazylog_trace.specs.Doing.{as_line, event_lines, holder_line, holder_lines, own_lines, Tries, Tells, GoesOn, Delivers, IsInForm, AreThere, Does, Prints};
+ghost use Rattle.lazylog_trace.specs.Doing.{as_line, event_lines, holder_line, holder_lines, own_lines, Tries, Tells, GoesOn, Delivers, IsInForm, Does, Prints};
 
 use crate::script::Command;
 use crate::texts::{
@@ -100,8 +101,8 @@ fn add_holder(
     holder: u32,
     lines: &mut TextList,
 ) -> Result<(), AllocError>
-    requires { has_node (holders_of world.now) holder ≡ true }
-    ensures { AreThere world.now → OnOk result (lines.new ≡ lines.old ++ holder_line world.now holder ∷ []) }
+    requires { has_node (holders world.now) holder ≡ true }
+    ensures { OnOk result (lines.new ≡ lines.old ++ holder_line world.now holder ∷ []) }
 {
     match world.line(holder) {
         Ok(line) => add_line(lines, line_text(alloc, holder, &line)?),
@@ -114,13 +115,13 @@ fn add_holder(
 fn add_each(
     alloc: Global,
     world: &World,
-    holders: &[u32],
+    nodes: &[u32],
     lines: &mut TextList,
 ) -> Result<(), AllocError>
-    requires { holders.now ≡ holders_of world.now }
-    ensures { AreThere world.now → OnOk result (lines.new ≡ lines.old ++ map (holder_line world.now) holders.now) }
+    requires { nodes.now ≡ holders world.now }
+    ensures { OnOk result (lines.new ≡ lines.old ++ map (holder_line world.now) nodes.now) }
 {
-    for holder in holders {
+    for holder in nodes {
         add_holder(alloc, world, *holder, lines)?;
     }
     Ok(())
@@ -128,7 +129,7 @@ fn add_each(
 
 /// The line of each holder.
 fn add_holders(alloc: Global, world: &World, lines: &mut TextList) -> Result<(), AllocError>
-    ensures { AreThere world.now → OnOk result (lines.new ≡ lines.old ++ holder_lines world.now (holders_of world.now)) }
+    ensures { OnOk result (lines.new ≡ lines.old ++ holder_lines world.now (holders world.now)) }
 {
     let holders = world.holders()?;
     if holders.is_empty() {
@@ -180,7 +181,7 @@ fn make_all(
     requires countable { world.old.events + 128 < 2 ^ 32 }
     requires form { IsInForm command }
     ensures does { Does command world.old world.new result }
-    ensures through { AreThere world.old → result ≡ Ok Through → lines.new ≡ lines.old ++ own_lines world.old command }
+    ensures through { result ≡ Ok Through → lines.new ≡ lines.old ++ own_lines world.old command }
     ensures spent { result ≡ Ok Spent → lines.new ≡ lines.old }
     ensures counted { world.new.events ≤ world.old.events + 128 }
     ensures grew { length world.old.history ≤ length world.new.history }

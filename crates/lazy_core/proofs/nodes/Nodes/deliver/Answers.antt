@@ -4,7 +4,7 @@ use Rattle.lazy_rules.specs.WorldRules.{message_at}
 use Rattle.lazy_core.specs.Early.{IsSound}
 use Rattle.lazy_core.specs.WorldView.{world_of}
 use Rattle.lazy_core.proofs.Dispatch.{message_early}
-use Rattle.lazy_core.proofs.world.World.deliver.Goals as goal
+use Rattle.lazy_core.proofs.nodes.Nodes.deliver.Goals as goal
 
 pub receive-requires-clause-early : goal.receive-requires-clause-early
 receive-requires-clause-early c =

@@ -4,7 +4,7 @@ use Rattle.lazy_rules.specs.Rows.{has_node}
 use Rattle.lazy_rules.specs.WorldState.{WorldState}
 use Rattle.lazy_core.specs.Early.{IsSound, IsDue}
 use Rattle.lazy_core.proofs.Dispatch.{crashed_received, append_received, ack_received}
-use Rattle.lazy_core.proofs.world.World.receive.Goals as goal
+use Rattle.lazy_core.proofs.nodes.Nodes.receive.Goals as goal
 
 pub returns-then-contains : goal.returns-then-contains
 returns-then-contains c =

@@ -1,6 +1,5 @@
-use Rattle.std.proofs.Common.{◌≡◌}
 use Rattle.lazy_core.proofs.Soundness.{made_first, made_sound}
-use Rattle.lazy_core.proofs.world.World.new.Goals as goal
+use Rattle.lazy_core.proofs.nodes.Nodes.new.Goals as goal
 
 pub invariant_of-result : goal.invariant_of-result
 invariant_of-result c =

@@ -1,4 +1,4 @@
-use Rattle.std.proofs.Common.{◌≡◌, ◌+◌, ◌<◌, ◌≤◌, length, refl, sym, subst, arith}
+use Rattle.std.proofs.Common.{◌+◌, ◌<◌, ◌≤◌, length, refl, sym, subst, arith}
 use Rattle.lazy_msgs.specs.declared.msg.Msg.TheVariants.{AppendAck}
 use Rattle.lazy_rules.specs.ClientState.{ClientState}
 use Rattle.lazy_rules.specs.ClientRules.{client_took}
@@ -7,7 +7,7 @@ use Rattle.lazy_rules.specs.WorldRules.{messages_limit}
 use Rattle.lazy_core.specs.WorldView.{world_of}
 use Rattle.lazy_core.proofs.Keeping.{ack_sound}
 use Rattle.lazy_core.proofs.Receiving.{client_refused, client_happened, client_made, client_within}
-use Rattle.lazy_core.proofs.world.World.take_append_ack.Goals as goal
+use Rattle.lazy_core.proofs.nodes.Nodes.take_append_ack.Goals as goal
 
 pub returns-in_err-append_ack : goal.returns-in_err-append_ack
 returns-in_err-append_ack c =

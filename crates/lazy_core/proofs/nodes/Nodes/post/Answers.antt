@@ -4,7 +4,7 @@ use Rattle.lazy_rules.specs.WorldState.{WorldState}
 use Rattle.lazy_core.specs.Early.{IsSound}
 use Rattle.lazy_core.specs.WorldView.{world_of}
 use Rattle.lazy_core.proofs.Dispatch.{crashed_post, post_received}
-use Rattle.lazy_core.proofs.world.World.post.Goals as goal
+use Rattle.lazy_core.proofs.nodes.Nodes.post.Goals as goal
 
 pub returns-then-contains : goal.returns-then-contains
 returns-then-contains c =

@@ -1,4 +1,4 @@
-use Rattle.std.proofs.Common.{◌≡◌, ℕ, ◌+◌, ◌-◌, ◌<◌, ◌≤◌, length, refl, sym, subst, arith}
+use Rattle.std.proofs.Common.{ℕ, ◌+◌, ◌-◌, ◌<◌, ◌≤◌, length, refl, sym, subst, arith}
 use Rattle.lazy_msgs.specs.declared.msg.Msg.TheVariants.{Append}
 use Rattle.lazy_rules.specs.SeqState.{SeqState}
 use Rattle.lazy_rules.specs.SeqRules.{seq_took}
@@ -8,7 +8,7 @@ use Rattle.lazy_core.specs.Early.{IsSeqNode}
 use Rattle.lazy_core.specs.WorldView.{world_of}
 use Rattle.lazy_core.proofs.Keeping.{append_sound}
 use Rattle.lazy_core.proofs.Receiving.{seq_refused, seq_happened, seq_made, seq_within}
-use Rattle.lazy_core.proofs.world.World.take_append.Goals as goal
+use Rattle.lazy_core.proofs.nodes.Nodes.take_append.Goals as goal
 
 pub returns-in_err-append : goal.returns-in_err-append
 returns-in_err-append c =

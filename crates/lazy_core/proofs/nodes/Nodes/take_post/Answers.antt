@@ -4,7 +4,7 @@ use Rattle.lazy_rules.specs.WorldState.{WorldState}
 use Rattle.lazy_rules.specs.WorldRules.{messages_limit}
 use Rattle.lazy_core.specs.WorldView.{world_of}
 use Rattle.lazy_core.proofs.Posting.{post_refused_here, post_happened, post_made, post_sound, post_within}
-use Rattle.lazy_core.proofs.world.World.take_post.Goals as goal
+use Rattle.lazy_core.proofs.nodes.Nodes.take_post.Goals as goal
 
 pub returns-in_err-post : goal.returns-in_err-post
 returns-in_err-post c =

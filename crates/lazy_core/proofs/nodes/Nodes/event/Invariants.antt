@@ -1,5 +1,5 @@
 use Rattle.std.proofs.Common.{◌≡◌, ◌-◌, ◌≤◌}
-use Rattle.lazy_core.proofs.world.World.event.Given as goal
+use Rattle.lazy_core.proofs.nodes.Nodes.event.Given as goal
 
 abbrev pub invariant-loop-room : goal.invariant-loop-room
 invariant-loop-room l = (l.self ≡ l.fn.self) × (1 ≤ l.room)

@@ -5,7 +5,7 @@ use Rattle.lazy_rules.specs.SeqState.{SeqState}
 use Rattle.lazy_rules.specs.WorldState.{WorldState}
 use Rattle.lazy_core.specs.Early.{entry_of}
 use Rattle.lazy_core.proofs.Steps.{held_there}
-use Rattle.lazy_core.proofs.world.World.unbound_line.Goals as goal
+use Rattle.lazy_core.proofs.nodes.Nodes.unbound_line.Goals as goal
 
 pub returns : goal.returns
 returns c =
