@@ -15,7 +15,7 @@ use Rattle.lazy_msgs.specs.declared.msg.Msg.{Msg}
 use Rattle.lazy_msgs.specs.declared.msg.Msg.TheVariants.{Append, AppendAck, Put, DataAck, Rejected, Place, Copy, Order, Probe, Part, Flush, FlushCopy, Sealed, NewView, ViewIs}
 
 -- The door of every node. What stands here meets no rule at all, whatever the node's state. No run of
--- fewer than 2^32 events brings such a message.
+-- fewer than 2^32 events is meant to bring such a message.
 
 -- the shape has this client
 abbrev pub has_client : Dimensions → Identity → Bool

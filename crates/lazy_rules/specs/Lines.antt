@@ -30,7 +30,7 @@ first_alive w nodes = find (is_alive w) nodes
 abbrev pub lost_shard : WorldState → Option ℕ
 lost_shard w = position (λ nodes. is_none (first_alive w nodes)) (newest w.control).shards
 
--- the store of a shard replica
+-- the shard replica of this number
 abbrev pub shard_at : WorldState → Option Node → Option ShardState
 shard_at w (Some (Shard i j)) = slice_get w.shards (shard_place w.shape i j)
 shard_at w _ = None
@@ -60,7 +60,7 @@ owner_by St shards place id = shard_of id shards
 abbrev pub owner_of : Dimensions → ℕ → Identity → ℕ
 owner_of shape place id = owner_by shape.mode shape.shards place id
 
--- the order that a store has, and its body at a place; no run leads to an open one in a line
+-- the order that a store has, and its body at a place; an open one stands for none, and reads as a no-op
 abbrev pub order_in : Option Store → List Cell
 order_in None = []
 order_in (Some store) = store.order
@@ -72,7 +72,7 @@ body_in (Some cell) = cell.body
 abbrev pub body_at : List (Option Store) → ℕ → ℕ → Body
 body_at stores shard place = body_in (slice_get (order_in (store_of stores shard)) place)
 
--- the entry of a bound place: its identity, as every shard has it, and the body that its own shard has
+-- the entry of a bound place: its identity, as the first shard has it, and the body that its own shard has
 abbrev pub entry_of : Identity → Body → Entry
 entry_of id (Kept bytes) = KeptEntry id bytes
 entry_of id Gone = GoneEntry id

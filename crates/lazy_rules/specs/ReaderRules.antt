@@ -320,8 +320,8 @@ abbrev pub probes_again : ReaderState → Force → Row ReaderState
 probes_again r force =
     sends_all r (to_each (filter (awaits r force) r.config.seq) (Probe r.config.view force.number))
 
--- Tick, while fetching: the next replica of each shard that is waited for is asked, and a leader that
--- told a tail is reminded to tell the shards
+-- Tick, while fetching: the next replica of each shard that is waited for is asked, and where a tail was
+-- told the view's leader is probed again, so that it tells the shards its bound position
 abbrev pub reminds : ReaderState → Fetch → Option ℕ → List (ℕ × Msg)
 reminds r fetch None = []
 reminds r fetch (Some tail) = to_each (first_of r.config.seq) (Probe r.config.view fetch.number)
