@@ -5,6 +5,7 @@ use Rattle.rec_id.specs.declared.event.Event.TheVariants.{Invoke, Acked, Seen}
 use Rattle.view_config.specs.declared.config.Config.{Config}
 use Rattle.view_config.specs.declared.edition.Mode.TheVariants.{M, St}
 use Rattle.lazy_msgs.specs.declared.input.WorldEvent.TheVariants.{Post, Deliver, Tick, Grace, Crash, Peek, Trim, Suspect}
+use Rattle.lazy_msgs.specs.declared.msg.Msg.{Msg}
 use Rattle.lazy_msgs.specs.declared.msg.Msg.TheVariants.{Append, AppendAck, Put, DataAck, ViewIs, AskView, Order, Ordered, Place, Placed, Probe, ProbeAck, Stable, TailReady}
 use Rattle.lazy_msgs.specs.declared.refused.EventRefused.TheVariants.{NoNode, NoMessage, IsClaim, NotClaim, Crashed, NoTrim, Backward, Wide, NotYet, Suspect as SuspectRefusedSo}
 use Rattle.lazy_msgs.specs.declared.refused.SuspectRefused.TheVariants.{NotInView}
@@ -15,7 +16,7 @@ use Rattle.lazy_rules.specs.Flight.{Batch}
 use Rattle.lazy_rules.specs.ReaderState.{first_reader}
 use Rattle.lazy_rules.specs.SeqRules.{seq_took, on_tick}
 use Rattle.lazy_rules.specs.SeqState.{SeqState, first_seq}
-use Rattle.lazy_rules.specs.WorldRules.{refusal}
+use Rattle.lazy_rules.specs.WorldRules.{refusal, run}
 use Rattle.lazy_rules.specs.WorldState.{WorldState}
 use Rattle.rules_examples.proofs.Shows.{c#, shape_of, item, flow, ran, sends_of, told_of, after_all, seq_shown}
 
@@ -182,3 +183,19 @@ pub refused : map (refusal bound)
     ∷ Some NoTrim
     ∷ []
 refused = refl
+
+-- a peek by a crashed client is refused as that, whatever its range; only that there is no such message, or no
+-- claim, comes before
+pub peeks_refused_of_a_crashed_client : map (refusal (run (Crash 0 ∷ []) bound)) (Peek 0 14 0 1 ∷ Peek 0 14 0 2 ∷ Peek 0 14 2 1 ∷ Peek 0 13 0 1 ∷ Peek 0 15 0 1 ∷ []) ≡ Some (Crashed 0)
+    ∷ Some (Crashed 0)
+    ∷ Some (Crashed 0)
+    ∷ Some (NotClaim 13)
+    ∷ Some (NoMessage 15)
+    ∷ []
+peeks_refused_of_a_crashed_client = refl
+
+-- an acknowledgement of the append by a node that orders nothing, or of its data by one that holds none, is not
+-- noted
+pub acknowledgements_not_noted : map (λ (sent : ℕ × Msg). (client_took posted sent.0 sent.1).next)
+    ((264, AppendAck 1 (c# 0 1)) ∷ (0, AppendAck 1 (c# 0 1)) ∷ (257, DataAck 1 (c# 0 1)) ∷ (0, DataAck 1 (c# 0 1)) ∷ []) ≡ posted ∷ posted ∷ posted ∷ posted ∷ []
+acknowledgements_not_noted = refl

@@ -11,3 +11,4 @@ pub mod ReadTraces
 pub mod ChangeTraces
 pub mod TrimTraces
 pub mod HolderTraces
+pub mod Times

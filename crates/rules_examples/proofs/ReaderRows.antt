@@ -236,6 +236,23 @@ pub fetched_with_a_tail : (steps reader_step reader
     ∷ []
 fetched_with_a_tail = refl
 
+-- the replicas of a shard take turns in their order, be they three or one
+pub fetched_of_three_and_of_one : (steps reader_step (first_reader (shape_in Two M 1 0 2 3 1) 0)
+    (Ask (Range 0 1)
+    ∷ later 2 (257 ∷ []) ((264 ∷ 265 ∷ 266 ∷ []) ∷ (268 ∷ []) ∷ [])
+    ∷ Tick
+    ∷ Tick
+    ∷ Tick
+    ∷ Tick
+    ∷ [])).sends ≡ ((264, Fetch 1 0 1) ∷ (268, Fetch 1 0 1) ∷ [])
+    ∷ ((264, Fetch 1 0 1) ∷ (268, Fetch 1 0 1) ∷ [])
+    ∷ ((265, Fetch 1 0 1) ∷ (268, Fetch 1 0 1) ∷ [])
+    ∷ ((266, Fetch 1 0 1) ∷ (268, Fetch 1 0 1) ∷ [])
+    ∷ ((264, Fetch 1 0 1) ∷ (268, Fetch 1 0 1) ∷ [])
+    ∷ ((265, Fetch 1 0 1) ∷ (268, Fetch 1 0 1) ∷ [])
+    ∷ []
+fetched_of_three_and_of_one = refl
+
 -- a read of what was given up is over, where it begins below the floor
 pub given_up_reads : (steps reader_step reader
     (Ask (Range 1 3) ∷ from_node 264 (TrimmedAt 1 1) ∷ from_node 264 (TrimmedAt 2 2) ∷ from_node 264 (TrimmedAt 1 2) ∷ from_node 268 (TrimmedAt 1 2) ∷ [])).events ≡ (Begin 0 1 (Range 1 3) ∷ [])
@@ -310,6 +327,27 @@ trim_in_later_views_sends = refl
 
 pub trim_in_later_views_tells : (steps reader_step reader trim_in_later_views).events ≡ (TrimAsk 0 1 0 ∷ []) ∷ [] ∷ [] ∷ [] ∷ [] ∷ (TrimDone 0 1 0 ∷ []) ∷ []
 trim_in_later_views_tells = refl
+
+-- a reader that trims, by number 2 and in a view without 265, and one that probes, by number 1
+abbrev pub trimming : ReaderState
+trimming = (steps reader_step reader (Ask (Range 0 0) ∷ Trim 0 ∷ later 2 (257 ∷ []) ((264 ∷ []) ∷ (268 ∷ 269 ∷ []) ∷ []) ∷ [])).last
+
+abbrev pub probing : ReaderState
+probing = (steps reader_step reader (Ask (Tail 0) ∷ [])).last
+
+-- an acknowledgement of another trim, or of a node that isn't a shard replica of the view, is not noted
+pub trim_acks_not_noted : map (λ input. (reader_step trimming input).next)
+    (from_node 264 (TrimAck 1) ∷ from_node 264 (TrimAck 3) ∷ from_node 265 (TrimAck 2) ∷ from_node 257 (TrimAck 2) ∷ []) ≡ trimming ∷ trimming ∷ trimming ∷ trimming ∷ []
+trim_acks_not_noted = refl
+
+pub trim_of_all_after_other_acks : (steps reader_step trimming
+    (from_node 264 (TrimAck 1) ∷ from_node 268 (TrimAck 1) ∷ from_node 269 (TrimAck 1) ∷ Tick ∷ [])).sends ≡ [] ∷ [] ∷ [] ∷ ((264, TrimMsg 2 0) ∷ (268, TrimMsg 2 0) ∷ (269, TrimMsg 2 0) ∷ []) ∷ []
+trim_of_all_after_other_acks = refl
+
+-- nor is one of another probe or view, or of a node that isn't a sequencing replica of the view
+pub probe_acks_not_noted : map (λ input. (reader_step probing input).next)
+    (from_node 257 (ProbeAck 1 2) ∷ from_node 257 (ProbeAck 2 1) ∷ from_node 259 (ProbeAck 1 1) ∷ from_node 264 (ProbeAck 1 1) ∷ []) ≡ probing ∷ probing ∷ probing ∷ probing ∷ []
+probe_acks_not_noted = refl
 
 -- edition One has no trim
 pub no_trim : (steps reader_step (first_reader (shape_in One M 1 0 1 1 1) 0) (Trim 0 ∷ [])).sends ≡ [] ∷ []
