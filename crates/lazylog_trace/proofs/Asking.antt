@@ -1,4 +1,4 @@
-use Rattle.std.proofs.Common.{◌≡◌, ℕ, ◌+◌, ◌<◌, ◌≤◌, ◌^◌, List, [], ◌∷◌, Option, Some, None, IsSome, IfSome, IfNone, ◌↔◌, rules, length, slice_get, codes, decimal, arith, refl, sym, ap, subst, ◌∙◌}
+use Rattle.std.proofs.Common.{◌≡◌, ℕ, ◌<◌, ◌^◌, List, [], ◌∷◌, Option, Some, None, IsSome, IfSome, IfNone, ◌↔◌, rules, length, slice_get, codes, decimal, arith, sym, ap, ◌∙◌}
 use Rattle.std.proofs.lemmas.Fmt.{decimal_injective}
 use Rattle.view_config.specs.Shape.{Dimensions, IsShape}
 use Rattle.view_config.specs.declared.edition.Edition.TheVariants.{One}
@@ -72,3 +72,24 @@ asked_some words read (Some shape) r one mode is valid = rw is (asks words read 
 pub asked_none : (words : List (List ℕ)) (read : Dimensions) (made : Option Dimensions) → Reads words read → AreWords read → (IsSome made ↔ IsShape read) → IfNone made (¬ IsTraceWords words)
 asked_none words read None r small valid = λ asked. let there = valid.1 (within words read r small asked) in cc
 asked_none words read (Some shape) r small valid = search rules
+
+-- the words ask for one shape
+pub one_shape : (words : List (List ℕ)) (a b : Dimensions) → AskFor words a → AskFor words b → a ≡ b
+one_shape words a b p q =
+    let e : words_of a ≡ words_of b = sym p.words_are ∙ q.words_are in
+    let a_within = p.within in
+    let b_within = q.within in
+    let seq : a.seq ≡ b.seq = one_number a.seq b.seq (omega arith) (omega arith) (ap (λ (ws : List (List ℕ)). slice_get ws 2) e) in
+    let spares : a.spares ≡ b.spares = one_number a.spares b.spares (omega arith) (omega arith) (ap (λ (ws : List (List ℕ)). slice_get ws 3) e) in
+    let shards : a.shards ≡ b.shards = one_number a.shards b.shards (omega arith) (omega arith) (ap (λ (ws : List (List ℕ)). slice_get ws 4) e) in
+    let copies : a.copies ≡ b.copies = one_number a.copies b.copies (omega arith) (omega arith) (ap (λ (ws : List (List ℕ)). slice_get ws 5) e) in
+    let clients : a.clients ≡ b.clients = one_number a.clients b.clients (omega arith) (omega arith) (ap (λ (ws : List (List ℕ)). slice_get ws 6) e) in
+    let edition = p.edition ∙ sym q.edition in
+    let mode = p.mode ∙ sym q.mode in
+    ap (λ x. record { edition = x; mode = a.mode; seq = a.seq; spares = a.spares; shards = a.shards; copies = a.copies; clients = a.clients }) edition
+    ∙ ap (λ x. record { edition = b.edition; mode = x; seq = a.seq; spares = a.spares; shards = a.shards; copies = a.copies; clients = a.clients }) mode
+    ∙ ap (λ (x : ℕ). record { edition = b.edition; mode = b.mode; seq = x; spares = a.spares; shards = a.shards; copies = a.copies; clients = a.clients }) seq
+    ∙ ap (λ (x : ℕ). record { edition = b.edition; mode = b.mode; seq = b.seq; spares = x; shards = a.shards; copies = a.copies; clients = a.clients }) spares
+    ∙ ap (λ (x : ℕ). record { edition = b.edition; mode = b.mode; seq = b.seq; spares = b.spares; shards = x; copies = a.copies; clients = a.clients }) shards
+    ∙ ap (λ (x : ℕ). record { edition = b.edition; mode = b.mode; seq = b.seq; spares = b.spares; shards = b.shards; copies = x; clients = a.clients }) copies
+    ∙ ap (λ (x : ℕ). record { edition = b.edition; mode = b.mode; seq = b.seq; spares = b.spares; shards = b.shards; copies = b.copies; clients = x }) clients

@@ -1,70 +1,94 @@
-use Rattle.std.proofs.Common.{◌≡◌, ◌≢◌, ℕ, ◌+◌, ◌-◌, ◌<◌, ◌≤◌, List, [], ◌∷◌, ◌++◌, Option, Some, None, IfSome, IsSome, Result, Ok, Err, map, take, get_or, zero, suc, length, slice_get, refl, ap, sym, ◌∙◌, arith, subst, rules}
-use Rattle.std.specs.declared.alloc.AllocError.{AllocError}
-use Rattle.std.specs.List.{range_with_len}
-use Rattle.std.proofs.lemmas.List.FromFn.{take-map-range_with_len, length-map-range_with_len, get_or-map-range_with_len}
+-- What events do, one by one.
+use Rattle.std.proofs.Common.{◌≡◌, ℕ, ◌+◌, ◌-◌, ◌<◌, List, [], ◌∷◌, length, Bool, true, false, not, ◌&&◌, Option, Some, None, refl, sym, ap, ◌∙◌, arith, suc}
+use Rattle.std.specs.Prelude.{nat_le, if◌then◌else◌}
+use Rattle.std.specs.Option.{is_none}
+use Rattle.std.proofs.lemmas.Bool.{and_parts, and_from, leb-true, le-leb}
 use Rattle.lazy_msgs.specs.declared.input.WorldEvent.{WorldEvent}
-use Rattle.lazy_msgs.specs.declared.input.WorldEvent.TheVariants.{Deliver as DeliverEvent}
-use Rattle.rec_id.specs.declared.entry.Entry.{Entry}
-use Rattle.lazy_rules.specs.SeqState.{SeqState}
+use Rattle.lazy_msgs.specs.declared.input.WorldEvent.TheVariants.{Deliver}
+use Rattle.lazy_msgs.specs.declared.refused.EventRefused.{EventRefused}
+use Rattle.lazy_rules.specs.WorldRules.{IsWithinLimits, after, accepted, happened, refusal, messages_limit, weight_limit, sent_weight}
 use Rattle.lazy_rules.specs.WorldState.{WorldState}
-use Rattle.lazy_rules.specs.WorldRules.{IsWithinLimits, after, run}
-use Rattle.lazylog_trace.specs.declared.handling.Outcome.{Outcome}
 use Rattle.lazylog_trace.specs.declared.handling.Outcome.TheVariants.{Through, Spent}
-use Rattle.lazylog_trace.specs.declared.script.Command.{Command}
-use Rattle.lazylog_trace.specs.declared.script.Command.TheVariants.{Flow}
-use Rattle.lazylog_trace.specs.Doing.{Tries, Delivers, Does, deliveries, events_of}
+use Rattle.lazylog_trace.specs.Doing.{Did, Done, led_to, deliveries, did, is_spent, is_within}
 
--- a command of no event
-pub does_none : (command : Command) (w : WorldState) (outcome : Result Outcome AllocError) → events_of command ≡ [] → outcome ≢ Ok Spent → Does command w w outcome
-does_none command w outcome none unspent = record {
-  tried = 0;
-  ran = refl;
-  through = λ _. sym (ap length none);
-  spent = λ spent. absurd (unspent spent);
-}
+-- the limits, as a test
+within_true : (w : WorldState) → IsWithinLimits w → is_within w ≡ true
+within_true w h = and_from (nat_le (length w.sent) messages_limit) (nat_le (sent_weight w.sent) weight_limit) (le-leb (length w.sent) messages_limit h.in_number) (le-leb (sent_weight w.sent) weight_limit h.in_weight)
 
--- a command of one event
-pub does_one : (command : Command) (event : WorldEvent) (before after_it : WorldState) (outcome : Result Outcome AllocError) → events_of command ≡ event ∷ [] → Tries event before after_it outcome → Does command before after_it outcome
-does_one command event before after_it (Ok Through) one tries = record {
-  tried = 1;
-  ran = rw one (tries.through refl);
-  through = λ _. rw one refl;
-  spent = λ spent. absurd cc;
-}
-does_one command event before after_it (Ok Spent) one tries = record {
-  tried = 0;
-  ran = tries.unchanged (λ same. cc);
-  through = λ through. absurd cc;
-  spent = λ _. rw one (rw (tries.unchanged (λ same. cc)) (tries.spent refl));
-}
-does_one command event before after_it (Err e) one tries = record {
-  tried = 0;
-  ran = tries.unchanged (λ same. cc);
-  through = λ through. absurd cc;
-  spent = λ spent. absurd cc;
-}
+true_within : (w : WorldState) → is_within w ≡ true → IsWithinLimits w
+true_within w h =
+    let parts = and_parts (nat_le (length w.sent) messages_limit) (nat_le (sent_weight w.sent) weight_limit) h in
+    record { in_number = leb-true (length w.sent) messages_limit parts.0; in_weight = leb-true (sent_weight w.sent) weight_limit parts.1 }
 
-get_at : {A : Type 0} (xs : List A) (k : ℕ) (d : A) → k < length xs → slice_get xs k ≡ Some (get_or xs k d)
-get_at [] k d below = absurd (omega arith)
-get_at (x ∷ xs) zero d below = refl
-get_at (x ∷ xs) (suc k) d below = get_at xs k d (omega arith)
+beyond_false : (w : WorldState) → ¬ IsWithinLimits w → is_within w ≡ false
+beyond_false w h = by (is_within w) refl
+  where
+    by : (b : Bool) → is_within w ≡ b → b ≡ false
+    by true e = absurd (h (true_within w e))
+    by false e = refl
 
-delivery_at : (first count k : ℕ) → k < count → slice_get (deliveries first count) k ≡ Some (DeliverEvent (first + k))
-delivery_at first count k below =
-    get_at (deliveries first count) k (DeliverEvent 0) (omega (arith, length-map-range_with_len DeliverEvent first count))
-    ∙ ap Some (get_or-map-range_with_len DeliverEvent first count k (first + k) (DeliverEvent 0) below refl)
+-- one event
+one_did : (w : WorldState) (event : WorldEvent) → is_spent w event ≡ false → did w (event ∷ []) ≡ led_to (happened w event) false
+one_did w event fits = ap (λ (b : Bool). if b then led_to w true else led_to (happened w event) false) fits
 
--- a command of deliveries
-pub does_all : (first last count : ℕ) (before after_all : WorldState) (outcome : Result Outcome AllocError) → count ≡ last + 1 - first → Delivers first count before after_all outcome → Does (Flow first last) before after_all outcome
-does_all first last count before after_all outcome e d =
-    let all : deliveries first (last + 1 - first) ≡ deliveries first count = ap (deliveries first) (sym e) in
-    let front : take d.tried (deliveries first count) ≡ deliveries first d.tried = take-map-range_with_len DeliverEvent first count d.tried d.within in
-    record {
-      tried = d.tried;
-      ran = rw (all, front) d.ran;
-      through = λ through. d.through through ∙ sym (length-map-range_with_len DeliverEvent first count) ∙ ap length (sym all);
-      spent = λ spent.
-          let event = DeliverEvent (first + d.tried) in
-          let there : slice_get (deliveries first count) d.tried ≡ Some event = delivery_at first count d.tried (d.stopped spent) in
-          rw (all, there) (d.spent spent);
-    }
+one_spent : (w : WorldState) (event : WorldEvent) → is_spent w event ≡ true → did w (event ∷ []) ≡ led_to w true
+one_spent w event spent = ap (λ (b : Bool). if b then led_to w true else led_to (happened w event) false) spent
+
+module _ (w new : WorldState) (event : WorldEvent) where
+  pub happened_did : refusal w event ≡ None → IsWithinLimits (after w event) → new ≡ after w event → Did (event ∷ []) w new Through
+  happened_did allowed within is = record {
+    done =
+        one_did w event (ap (λ (r : Option EventRefused). is_none r && not (is_within (after w event))) allowed ∙ ap (λ (b : Bool). not b) (within_true (after w event) within))
+        ∙ ap (λ (x : WorldState). led_to x false) (ap (accepted w event) allowed ∙ sym is);
+  }
+
+  pub spent_did : refusal w event ≡ None → ¬ IsWithinLimits (after w event) → new ≡ w → Did (event ∷ []) w new Spent
+  spent_did allowed beyond is = record {
+    done =
+        one_spent w event (ap (λ (r : Option EventRefused). is_none r && not (is_within (after w event))) allowed ∙ ap (λ (b : Bool). not b) (beyond_false (after w event) beyond))
+        ∙ ap (λ (x : WorldState). led_to x true) (sym is);
+  }
+
+  pub refused_did : (refused : EventRefused) → refusal w event ≡ Some refused → new ≡ w → Did (event ∷ []) w new Through
+  refused_did refused why is = record {
+    done =
+        one_did w event (ap (λ (r : Option EventRefused). is_none r && not (is_within (after w event))) why)
+        ∙ ap (λ (x : WorldState). led_to x false) (ap (accepted w event) why ∙ sym is);
+  }
+
+pub ruleset events_did = (happened_did, spent_did, refused_did)
+
+-- events behind one that went through, or was spent
+did_on : (w new : WorldState) (event : WorldEvent) (events : List WorldEvent) → Did (event ∷ []) w new Through → did w (event ∷ events) ≡ did new events
+did_on w new event events d = by (is_spent w event) refl d.done
+  where
+    by : (b : Bool) → is_spent w event ≡ b → (if b then led_to w true else led_to (happened w event) false) ≡ led_to new false → (if b then led_to w true else did (happened w event) events) ≡ did new events
+    by true e h = let wrong : true ≡ false = ap (λ (x : Done). x.spent) h in cc
+    by false e h = ap (λ (x : WorldState). did x events) (ap (λ (x : Done). x.world) h)
+
+did_stop : (w new : WorldState) (event : WorldEvent) (events : List WorldEvent) → Did (event ∷ []) w new Spent → did w (event ∷ events) ≡ led_to new true
+did_stop w new event events d = by (is_spent w event) refl d.done
+  where
+    by : (b : Bool) → is_spent w event ≡ b → (if b then led_to w true else led_to (happened w event) false) ≡ led_to new true → (if b then led_to w true else did (happened w event) events) ≡ led_to new true
+    by true e h = h
+    by false e h = let wrong : false ≡ true = ap (λ (x : Done). x.spent) h in cc
+
+next_delivery : (first count i : ℕ) → i < count → deliveries (first + i) (count - i) ≡ Deliver (first + i) ∷ deliveries (first + (i + 1)) (count - (i + 1))
+next_delivery first count i lt =
+    let more : count - i ≡ suc (count - (i + 1)) = omega arith in
+    let next : first + i + 1 ≡ first + (i + 1) = omega arith in
+    ap (deliveries (first + i)) more ∙ ap (λ (n : ℕ). Deliver (first + i) ∷ deliveries n (count - (i + 1))) next
+
+module _ (first count i : ℕ) (lt : i < count) (w new : WorldState) where
+  pub deliver_on : Did (Deliver (first + i) ∷ []) w new Through → did w (deliveries (first + i) (count - i)) ≡ did new (deliveries (first + (i + 1)) (count - (i + 1)))
+  deliver_on d = ap (did w) (next_delivery first count i lt) ∙ did_on w new (Deliver (first + i)) (deliveries (first + (i + 1)) (count - (i + 1))) d
+
+  pub deliver_stop : Did (Deliver (first + i) ∷ []) w new Spent → did w (deliveries (first + i) (count - i)) ≡ led_to new true
+  deliver_stop d = ap (did w) (next_delivery first count i lt) ∙ did_stop w new (Deliver (first + i)) (deliveries (first + (i + 1)) (count - (i + 1))) d
+
+module _ (first count i : ℕ) (lt : i < count) (start w new : WorldState) (on : did start (deliveries first count) ≡ did w (deliveries (first + i) (count - i))) where
+  pub loop_on : Did (Deliver (first + i) ∷ []) w new Through → did start (deliveries first count) ≡ did new (deliveries (first + (i + 1)) (count - (i + 1)))
+  loop_on d = on ∙ deliver_on first count i lt w new d
+
+  pub loop_stop : Did (Deliver (first + i) ∷ []) w new Spent → Did (deliveries first count) start new Spent
+  loop_stop d = record { done = on ∙ deliver_stop first count i lt w new d }

@@ -3,3 +3,9 @@ pub mod Asking
 pub mod Counting
 pub mod Doings
 pub mod Lengths
+pub mod NumberWords
+pub mod Writing
+pub mod LineTells
+pub mod ByteTells
+pub mod ScriptTells
+pub mod TraceTells

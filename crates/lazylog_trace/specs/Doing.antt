@@ -1,6 +1,6 @@
-use Rattle.std.specs.Prelude.{◌≡◌, ◌≢◌, ℕ, ◌+◌, ◌-◌, ◌<◌, ◌≤◌, List, [], ◌∷◌, ◌++◌, length, map, take, drop, nat_lt, if◌then◌else◌, Option, Some, None, IfSome, true, slice_get, codes, Result, Ok, Err}
+use Rattle.std.specs.Prelude.{◌≡◌, ℕ, ◌+◌, ◌-◌, ◌<◌, ◌≤◌, List, [], ◌∷◌, ◌++◌, length, map, drop, nat_lt, if◌then◌else◌, Bool, true, false, not, ◌&&◌, nat_le, Option, Some, None, codes, Result, Ok, Err}
 use Rattle.std.specs.List.{range_with_len}
-use Rattle.std.specs.declared.alloc.AllocError.{AllocError}
+use Rattle.std.specs.Option.{is_none}
 use Rattle.rec_id.specs.declared.event.Event.{Event}
 use Rattle.lazy_msgs.specs.declared.input.WorldEvent.{WorldEvent}
 use Rattle.lazy_msgs.specs.declared.input.WorldEvent.TheVariants.{Post, Deliver as DeliverEvent}
@@ -9,12 +9,12 @@ use Rattle.rec_id.specs.declared.entry.Entry.{Entry}
 use Rattle.lazy_rules.specs.Holders.{holders}
 use Rattle.lazy_rules.specs.Lines.{line_told}
 use Rattle.lazy_rules.specs.WorldState.{WorldState}
-use Rattle.lazy_rules.specs.WorldRules.{IsWithinLimits, after, happened, refusal, run}
+use Rattle.lazy_rules.specs.WorldRules.{after, happened, refusal, messages_limit, weight_limit, sent_weight}
 use Rattle.lazylog_trace.specs.declared.handling.Outcome.{Outcome}
 use Rattle.lazylog_trace.specs.declared.handling.Outcome.TheVariants.{Through, Spent}
 use Rattle.lazylog_trace.specs.declared.script.Command.{Command}
 use Rattle.lazylog_trace.specs.declared.script.Command.TheVariants.{Nothing, Append, Deliver, Flow, Lines}
-use Rattle.lazylog_trace.specs.Texts.{event_text, refused_text, no_client_text, line_text, lost_text}
+use Rattle.log_texts.specs.Texts.{event_text, refused_text, no_client_text, line_text, lost_text}
 
 -- a text as a line
 abbrev pub as_line : List ℕ → List ℕ
@@ -39,27 +39,34 @@ pub record GoesOn (before after_it : WorldState) : Type 0 where
   pub grew : length before.history ≤ length after_it.history
   pub shaped : after_it.shape ≡ before.shape
 
--- One event happened or was refused, or it was refused as spent. Where it was, or there was no memory
--- for it, nothing changed.
-pub record Tries (event : WorldEvent) (before after_it : WorldState) (outcome : Result Outcome AllocError) : Type 0 where
-  pub through : outcome ≡ Ok Through → after_it ≡ happened before event
-  pub spent : outcome ≡ Ok Spent → ¬ IsWithinLimits (after before event)
-  pub unchanged : outcome ≢ Ok Through → after_it ≡ before
+-- the messages of the world are within its limits
+abbrev pub is_within : WorldState → Bool
+is_within w = nat_le (length w.sent) messages_limit && nat_le (sent_weight w.sent) weight_limit
 
--- The deliveries of so many messages from the first one on were tried in order, refused ones passed
--- over: all of them, or those before one that was refused as spent or found no memory.
-pub record Delivers (first count : ℕ) (before after_all : WorldState) (outcome : Result Outcome AllocError) : Type 0 where
-  pub tried : ℕ
-  pub within : tried ≤ count
-  pub ran : after_all ≡ run (deliveries first tried) before
-  pub through : outcome ≡ Ok Through → tried ≡ count
-  pub stopped : outcome ≡ Ok Spent → tried < count
-  pub spent : outcome ≡ Ok Spent → ¬ IsWithinLimits (after after_all (DeliverEvent (first + tried)))
+-- the event isn't refused, but the world would send more than it may
+abbrev pub is_spent : WorldState → WorldEvent → Bool
+is_spent w event = is_none (refusal w event) && not (is_within (after w event))
 
--- the lines of what was tried: of a refusal one, else none
-pub record Tells (event : WorldEvent) (before : WorldState) (lines lines_now : List (List ℕ)) (outcome : Result Outcome AllocError) : Type 0 where
-  pub through : outcome ≡ Ok Through → lines_now ≡ lines ++ refusal_lines (refusal before event)
-  pub spent : outcome ≡ Ok Spent → lines_now ≡ lines
+-- where a list of events led to: past all of them, or to one that was spent
+pub record Done : Type 0 where
+  pub world : WorldState
+  pub spent : Bool
+
+abbrev pub led_to : WorldState → Bool → Done
+led_to w spent = record { world = w; spent = spent }
+
+-- the events happen in order, refused ones are passed over, up to one that is spent
+abbrev pub did : WorldState → List WorldEvent → Done
+did w [] = led_to w false
+did w (event ∷ events) = if is_spent w event then led_to w true else did (happened w event) events
+
+abbrev pub is_stop : Outcome → Bool
+is_stop Through = false
+is_stop Spent = true
+
+-- the events were done, and led to this world
+pub record Did (events : List WorldEvent) (before after_all : WorldState) (outcome : Outcome) : Type 0 where
+  pub done : did before events ≡ led_to after_all (is_stop outcome)
 
 -- the events that a command names: none of a client whose number no node has
 abbrev pub events_of : Command → List WorldEvent
@@ -95,15 +102,6 @@ abbrev pub IsInForm : Command → Type 0
 IsInForm (Flow first last) = (first ≤ last) × (last < first + 128)
 IsInForm _ = Unit {0}
 
--- The events of a command happened in order, refused ones passed over: all of them, or those before
--- one that was refused as spent or found no memory.
-pub record Does (command : Command) (before after_all : WorldState) (outcome : Result Outcome AllocError) : Type 0 where
-  pub tried : ℕ
-  pub ran : after_all ≡ run (take tried (events_of command)) before
-  pub through : outcome ≡ Ok Through → tried ≡ length (events_of command)
-  pub spent : outcome ≡ Ok Spent → IfSome (slice_get (events_of command) tried) (λ event. ¬ IsWithinLimits (after after_all event))
-
--- what a command that was done prints: its own lines, and those of the events that it made
-pub record Prints (command : Command) (before after_all : WorldState) (lines lines_now : List (List ℕ)) (outcome : Result Outcome AllocError) : Type 0 where
-  pub through : outcome ≡ Ok Through → lines_now ≡ lines ++ (own_lines before command ++ event_lines (drop (length before.history) after_all.history))
-  pub spent : outcome ≡ Ok Spent → lines_now ≡ lines ++ event_lines (drop (length before.history) after_all.history)
+-- all that a command prints when it led to this world: its own lines, and those of the events that it made
+abbrev pub command_lines : WorldState → Command → WorldState → List (List ℕ)
+command_lines before command after_all = own_lines before command ++ event_lines (drop (length before.history) after_all.history)

@@ -1,16 +1,18 @@
-use Rattle.std.specs.Prelude.{◌≡◌, ◌≢◌, ℕ, ◌+◌, ◌-◌, ◌*◌, ◌<◌, ◌≤◌, length, Result, Err}
+use Rattle.std.specs.Prelude.{◌≡◌, ◌≢◌, ℕ, ◌+◌, ◌-◌, ◌*◌, ◌≤◌, length, Result, Err}
 use Rattle.view_config.specs.declared.edition.Mode.TheVariants.{M}
 use Rattle.io_edges.specs.Faults.{Rose}
 use Rattle.io_edges.specs.declared.status.Status.{Status}
 use Rattle.io_edges.specs.declared.status.Status.TheVariants.{Usage, ReadFault, WriteFault}
+use Rattle.lazylog_trace.specs.Output.{Reading, lines_limit}
 use Rattle.lazylog_trace.specs.declared.session.Session.{Session}
 
--- how many lines a script has at most, and how many bytes a line
-abbrev pub lines_limit : ℕ
-lines_limit = 100000
-
+-- how many bytes a line has at most, in any edition
 abbrev pub bytes_limit : ℕ
 bytes_limit = 70000
+
+-- where the script is
+abbrev pub reading_of : Session → Reading
+reading_of s = record { world = s.world; lines = s.lines; line = s.line.items }
 
 -- a script on its way: no line has made more events than it may
 pub record IsUnderWay (s : Session) : Type 0 where

@@ -1,14 +1,14 @@
 //! What a command does to a world, and the lines that it prints.
 
-ghost use Rattle.std.specs.Prelude.{◌≡◌, ◌+◌, ◌-◌, ◌*◌, ◌^◌, ◌<◌, ◌≤◌, ◌++◌, [], ◌∷◌, length, map, drop, true, OnOk, OnErr, Ok};
+ghost use Rattle.std.specs.Prelude.{◌≡◌, ◌+◌, ◌-◌, ◌*◌, ◌^◌, ◌<◌, ◌≤◌, ◌++◌, [], ◌∷◌, length, map, true, IfOk, OnOk, OnErr};
 ghost use Rattle.view_config.specs.declared.edition.Mode.TheVariants.{M};
 ghost use Rattle.log_safety.specs.Built.{IsBuilt};
 ghost use Rattle.lazy_rules.specs.Holders.{holders};
 ghost use Rattle.lazy_msgs.specs.declared.input.WorldEvent.TheVariants.{Deliver};
 ghost use Rattle.lazy_rules.specs.Rows.{has_node};
-ghost use Rattle.lazylog_trace.specs.declared.handling.Outcome.TheVariants.{Through, Spent};
+ghost use Rattle.lazy_rules.specs.WorldRules.{refusal};
 ghost use Rattle.lazylog_trace.specs.declared.script.Command.TheVariants.{Append};
-ghost use Rattle.lazylog_trace.specs.Doing.{as_line, event_lines, holder_line, holder_lines, own_lines, Tries, Tells, GoesOn, Delivers, IsInForm, Does, Prints};
+ghost use Rattle.lazylog_trace.specs.Doing.{as_line, deliveries, events_of, event_lines, refusal_lines, holder_line, holder_lines, own_lines, command_lines, GoesOn, Did, IsInForm};
 
 use crate::script::Command;
 use crate::texts::{
@@ -37,6 +37,7 @@ fn add_line(lines: &mut TextList, mut text: Text) -> Result<(), AllocError>
 }
 
 /// One event; a refusal is printed.
+#[tactic(auto, using(crate::proofs::Doings::events_did))]
 fn make(
     alloc: Global,
     world: &mut World,
@@ -45,8 +46,8 @@ fn make(
 ) -> Result<Outcome, AllocError>
     requires built { IsBuilt world.old.shape event.now }
     requires countable { world.old.events + 1 < 2 ^ 32 }
-    ensures tries { Tries event.now world.old world.new result }
-    ensures tells { Tells event.now world.old lines.old lines.new result }
+    ensures did { IfOk result (Did (event.now ∷ []) world.old world.new) }
+    ensures tells { OnOk result (lines.new ≡ lines.old ++ refusal_lines (refusal world.old event.now)) }
     ensures goes_on { GoesOn world.old world.new }
 {
     match world.event(event) {
@@ -61,10 +62,11 @@ fn make(
 }
 
 /// One delivery; a refusal is passed over.
+#[tactic(auto, using(crate::proofs::Doings::events_did))]
 fn deliver(world: &mut World, message: u32) -> Result<Outcome, AllocError>
     requires mode { world.old.shape.mode ≡ M }
     requires countable { world.old.events + 1 < 2 ^ 32 }
-    ensures tries { Tries (Deliver message) world.old world.new result }
+    ensures did { IfOk result (Did (Deliver message ∷ []) world.old world.new) }
     ensures goes_on { GoesOn world.old world.new }
 {
     match world.event(&WorldEvent::Deliver(message)) {
@@ -80,7 +82,7 @@ fn deliver_all(world: &mut World, first: u32, count: u32) -> Result<Outcome, All
     requires mode { world.old.shape.mode ≡ M }
     requires countable { world.old.events + count < 2 ^ 32 }
     requires numbers { first + count ≤ 2 ^ 32 }
-    ensures delivers { Delivers first count world.old world.new result }
+    ensures did { IfOk result (Did (deliveries first count) world.old world.new) }
     ensures counted { world.new.events ≤ world.old.events + count }
     ensures grew { length world.old.history ≤ length world.new.history }
     ensures shaped { world.new.shape ≡ world.old.shape }
@@ -88,7 +90,8 @@ fn deliver_all(world: &mut World, first: u32, count: u32) -> Result<Outcome, All
     for i in 0..count {
         match deliver(world, first + i) {
             Ok(Outcome::Through) => {}
-            outcome => return outcome,
+            Ok(Outcome::Spent) => return Ok(Outcome::Spent),
+            Err(AllocError) => return Err(AllocError),
         }
     }
     Ok(Outcome::Through)
@@ -158,9 +161,8 @@ fn append(
 ) -> Result<Outcome, AllocError>
     requires mode { world.old.shape.mode ≡ M }
     requires countable { world.old.events + 1 < 2 ^ 32 }
-    ensures does { Does (Append client bytes) world.old world.new result }
-    ensures through { result ≡ Ok Through → lines.new ≡ lines.old ++ own_lines world.old (Append client bytes) }
-    ensures spent { result ≡ Ok Spent → lines.new ≡ lines.old }
+    ensures did { IfOk result (Did (events_of (Append client bytes)) world.old world.new) }
+    ensures tells { OnOk result (lines.new ≡ lines.old ++ own_lines world.old (Append client bytes)) }
     ensures goes_on { GoesOn world.old world.new }
 {
     if client < CONTROLLER {
@@ -180,9 +182,8 @@ fn make_all(
     requires mode { world.old.shape.mode ≡ M }
     requires countable { world.old.events + 128 < 2 ^ 32 }
     requires form { IsInForm command }
-    ensures does { Does command world.old world.new result }
-    ensures through { result ≡ Ok Through → lines.new ≡ lines.old ++ own_lines world.old command }
-    ensures spent { result ≡ Ok Spent → lines.new ≡ lines.old }
+    ensures did { IfOk result (Did (events_of command) world.old world.new) }
+    ensures tells { OnOk result (lines.new ≡ lines.old ++ own_lines world.old command) }
     ensures counted { world.new.events ≤ world.old.events + 128 }
     ensures grew { length world.old.history ≤ length world.new.history }
     ensures shaped { world.new.shape ≡ world.old.shape }
@@ -209,8 +210,8 @@ pub fn obey(
     requires mode { world.old.shape.mode ≡ M }
     requires countable { world.old.events + 128 < 2 ^ 32 }
     requires form { IsInForm command }
-    ensures does { Does command world.old world.new result }
-    ensures prints { Prints command world.old world.new lines.old lines.new result }
+    ensures did { IfOk result (Did (events_of command) world.old world.new) }
+    ensures prints { OnOk result (lines.new ≡ lines.old ++ command_lines world.old command world.new) }
     ensures counted { world.new.events ≤ world.old.events + 128 }
     ensures grew { length world.old.history ≤ length world.new.history }
     ensures shaped { world.new.shape ≡ world.old.shape }

@@ -3,6 +3,7 @@
 ghost use Rattle.std.specs.Prelude.{◌≡◌, ◌≢◌, ◌<◌, ◌≤◌, ◌+◌, ◌-◌, ◌*◌, ◌^◌, ℕ, IfSome, IfNone, decimal};
 ghost use Rattle.std.specs.Str.Parse.{digits_value};
 ghost use Rattle.lazylog_trace.specs.Digits.{AreDigits};
+ghost use Rattle.lazylog_trace.specs.Script.{number_of};
 
 /// The number with one more digit behind it, if `byte` is a digit and the number stays below 2^32.
 fn with_digit(number: u32, byte: u8) -> Option<u32>
@@ -32,10 +33,11 @@ fn read_digits(word: &[u8]) -> Option<u32>
 
 /// The number that `word` is the decimal text of, if it is below 2^32. There is neither a sign nor a
 /// leading zero.
-#[tactic(auto, using(crate::proofs::Decimals::numerals))]
+#[tactic(auto, using(crate::proofs::Decimals::numerals, crate::proofs::NumberWords::numbers))]
 pub fn read_number(word: &[u8]) -> Option<u32>
     ensures some { IfSome result (λ number. word.now ≡ decimal number) }
     ensures none { IfNone result ((number : ℕ) → number < 2 ^ 32 → word.now ≢ decimal number) }
+    ensures read { result ≡ number_of word.now }
 {
     if word.is_empty() {
         return None;

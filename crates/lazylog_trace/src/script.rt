@@ -2,8 +2,11 @@
 //!
 //! Nothing is done here: a client that no shape has is still a command.
 
-ghost use Rattle.std.specs.Prelude.{IfOk, IfSome};
+ghost use Rattle.std.specs.Prelude.{◌≡◌, ◌==◌, Err, None, Some, position, IfOk, IfSome, option_copied};
+ghost use Rattle.std.specs.List.{list_all};
 ghost use Rattle.lazylog_trace.specs.Doing.{IsInForm};
+ghost use Rattle.lazylog_trace.specs.Script.{after, append_of, command_of, cut, deliver_of, flow_of, flow_with, is_data, is_visible, client_of};
+ghost use Rattle.lazylog_trace.specs.declared.script.ScriptError.{ScriptError};
 
 use crate::numbers::read_number;
 use rec_id::Bytes;
@@ -47,30 +50,64 @@ impl From<AllocError> for ScriptError {
 const FLOW_LIMIT: u32 = 128;
 
 /// What of `line` comes after `front`, `None` where the line begins otherwise.
-fn after<'a>(line: &'a [u8], front: &[u8]) -> Option<&'a [u8]> {
+fn after<'a>(line: &'a [u8], front: &[u8]) -> Option<&'a [u8]>
+    ensures { option_copied result ≡ after front.now line.now }
+{
     line.strip_prefix(front)
 }
 
-/// The front of `line` up to its first space, and what comes after that, if there is a space.
-fn cut(line: &[u8]) -> (&[u8], Option<&[u8]>) {
-    match line.iter().position(|byte| *byte == b' ') {
-        Some(i) => (&line[..i], Some(&line[i + 1..])),
-        None => (line, None),
+/// Where the first space is.
+fn space_in(text: &[u8]) -> Option<usize>
+    ensures { result ≡ position (λ byte. byte == 32) text.now }
+{
+    text.iter().position(|byte| *byte == b' ')
+}
+
+/// The front of `text` up to its first space, and what comes after that, if there is a space.
+fn cut(text: &[u8]) -> (&[u8], Option<&[u8]>)
+    ensures first { result.0.now ≡ (cut text.now).0 }
+    ensures rest { option_copied result.1 ≡ (cut text.now).1 }
+{
+    match space_in(text) {
+        Some(i) => (&text[..i], Some(&text[i + 1..])),
+        None => (text, None),
     }
+}
+
+fn is_visible(byte: u8) -> bool
+    ensures { result ≡ is_visible byte }
+{
+    b'!' <= byte && byte <= b'~'
+}
+
+fn all_visible(bytes: &[u8]) -> bool
+    ensures { result ≡ list_all is_visible bytes.now }
+{
+    bytes.iter().all(|byte| is_visible(*byte))
 }
 
 /// Whether these bytes may stand in a script as the data of a record: at least one, each a visible
 /// one of ASCII.
-fn is_data(bytes: &[u8]) -> bool {
-    !bytes.is_empty() && bytes.iter().all(|byte| b'!' <= *byte && *byte <= b'~')
+fn is_data(bytes: &[u8]) -> bool
+    ensures { result ≡ is_data bytes.now }
+{
+    bytes.len() > 0 && all_visible(bytes)
+}
+
+fn read_client(word: &[u8]) -> Option<u32>
+    ensures { result ≡ client_of word.now }
+{
+    read_number(after(word, b"c")?)
 }
 
 /// `CLIENT` or `CLIENT DATA`.
 fn read_append(alloc: Global, words: &[u8]) -> Result<Command, ScriptError>
-    ensures { IfOk result IsInForm }
+    ensures form { IfOk result IsInForm }
+    ensures said { IfOk result (λ command. append_of words.now ≡ Some command) }
+    ensures bad { result ≡ Err ScriptError.BadLine → append_of words.now ≡ None }
 {
     let (client, data) = cut(words);
-    let Some(client) = after(client, b"c").and_then(read_number) else {
+    let Some(client) = read_client(client) else {
         return Err(ScriptError::BadLine);
     };
     match data {
@@ -80,29 +117,43 @@ fn read_append(alloc: Global, words: &[u8]) -> Result<Command, ScriptError>
     }
 }
 
-/// `NUM NUM`: the second is at least the first, and less than 128 above it.
+/// The second is at least the first, and less than 128 above it.
+fn flow_between(first: u32, last: u32) -> Option<Command>
+    ensures form { IfSome result IsInForm }
+    ensures read { result ≡ flow_with (Some first) (Some last) }
+{
+    if first > last {
+        return None;
+    }
+    if last - first >= FLOW_LIMIT {
+        return None;
+    }
+    Some(Command::Flow(first, last))
+}
+
+/// `NUM NUM`.
 fn read_flow(words: &[u8]) -> Option<Command>
-    ensures { IfSome result IsInForm }
+    ensures form { IfSome result IsInForm }
+    ensures read { result ≡ flow_of words.now }
 {
     let (first, last) = cut(words);
     let first = read_number(first)?;
     let last = read_number(last?)?;
-    if first <= last && last - first < FLOW_LIMIT {
-        Some(Command::Flow(first, last))
-    } else {
-        None
-    }
+    flow_between(first, last)
 }
 
 fn read_deliver(words: &[u8]) -> Option<Command>
-    ensures { IfSome result IsInForm }
+    ensures form { IfSome result IsInForm }
+    ensures read { result ≡ deliver_of words.now }
 {
     Some(Command::Deliver(read_number(words)?))
 }
 
 /// Reads a line, its newline not among its bytes.
 pub fn read_line(alloc: Global, line: &[u8]) -> Result<Command, ScriptError>
-    ensures { IfOk result IsInForm }
+    ensures form { IfOk result IsInForm }
+    ensures said { IfOk result (λ command. command_of line.now ≡ Some command) }
+    ensures bad { result ≡ Err ScriptError.BadLine → command_of line.now ≡ None }
 {
     if line.is_empty() || line[0] == b'#' {
         return Ok(Command::Nothing);

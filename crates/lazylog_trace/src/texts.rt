@@ -1,7 +1,8 @@
 //! The texts in which events, refusals and lines of holders are printed, without their newlines.
 
 ghost use Rattle.std.specs.Prelude.{◌≡◌, ◌++◌, ◌≤◌, IfOk, OnOk, string_bytes, option_copied, codes, decimal};
-ghost use Rattle.lazylog_trace.specs.Texts.{id_text, entry_text, spaced, parted, read_text, ask_text, tail_text, floor_text, event_text, node_text, post_reason, begin_reason, trim_reason, suspect_reason, reason, refused_text, no_client_text, holder_text, line_text, lost_text, end_text, stop_text};
+ghost use Rattle.log_texts.specs.Texts.{id_text, entry_text, spaced, parted, read_text, ask_text, tail_text, floor_text, event_text, node_text, post_reason, begin_reason, trim_reason, suspect_reason, reason, refused_text, no_client_text, holder_text, line_text, lost_text, end_text};
+ghost use Rattle.lazylog_trace.specs.Output.{stop_text};
 
 use io_edges::Status;
 use lazy_msgs::{BeginRefused, EventRefused, PostRefused, SuspectRefused, TrimRefused};

@@ -1,11 +1,16 @@
 //! The whole program, over any source and sink.
 
-ghost use Rattle.std.specs.Prelude.{◌≡◌, ◌≢◌, ◌≤◌, ◌⊎◌, OnOk, Err};
+ghost use Rattle.std.specs.Prelude.{◌≡◌, ◌≢◌, ◌≤◌, ◌⊎◌, ℕ, List, Some, None, IfOk, IfErr, OnOk, Err, codes};
+ghost use Rattle.std.specs.Io.KnownBytes.{append_known};
+ghost use Rattle.io_edges.specs.Telling.{Stops as IsFrontOf};
+ghost use Rattle.lazylog_trace.specs.Doing.{as_line};
+ghost use Rattle.lazylog_trace.specs.Output.{Closed, Ran, Traced, closing_line, first_reading, out, end_of, out_read, last_line, status_of};
 ghost use Rattle.view_config.specs.declared.edition.Mode.TheVariants.{M};
 ghost use Rattle.io_edges.specs.Faults.{Rose};
 ghost use Rattle.io_edges.specs.declared.status.Status.TheVariants.{Usage, ReadFault, WriteFault, Memory};
-ghost use Rattle.lazylog_trace.specs.Session.{IsUnderWay, Stopped};
-ghost use Rattle.lazylog_trace.specs.Words.{IsTraceWords};
+ghost use Rattle.lazylog_trace.specs.Session.{IsUnderWay, Stopped, reading_of};
+ghost use Rattle.view_config.specs.Shape.{Dimensions};
+ghost use Rattle.lazylog_trace.specs.Words.{AskFor, IsTraceWords};
 
 use crate::session::{Session, write_line};
 use crate::texts::{end_text, stop_text};
@@ -33,6 +38,7 @@ fn run_script<S: Source, K: Sink>(
     ensures write_fault { result ≡ Err WriteFault → Rose (K.faults sink.old) (K.faults sink.new) }
     ensures grows { K.faults sink.old ≤ K.faults sink.new }
     ensures source_grows { S.faults source.old ≤ S.faults source.new }
+    ensures ran { (bytes : List ℕ) → S.left source.old ≡ Some bytes → Ran (reading_of session.old) bytes (K.written sink.old) (K.written sink.new) (reading_of session.new) result }
 {
     let mut piece = [0u8; PIECE];
     loop {
@@ -42,12 +48,18 @@ fn run_script<S: Source, K: Sink>(
         if count == 0 {
             return session.take_end(alloc, sink);
         }
-        session.take(alloc, &piece[..count], sink)?;
+        match session.take(alloc, &piece[..count], sink) {
+            Ok(()) => {}
+            Err(status) => return Err(status),
+        }
     }
 }
 
 fn write_text<K: Sink>(sink: &mut K, mut text: Text) -> Result<(), Status>
-    ensures { Stopped (K.faults sink.old) (K.faults sink.new) result }
+    ensures whole { OnOk result (K.written sink.new ≡ append_known (K.written sink.old) (as_line text)) }
+    ensures front { IsFrontOf (K.written sink.old) (K.written sink.new) (as_line text) }
+    ensures only { IfErr result (λ status. (status ≡ WriteFault) ⊎ (status ≡ Memory)) }
+    ensures stopped { Stopped (K.faults sink.old) (K.faults sink.new) result }
 {
     match text.push(b'\n') {
         Ok(()) => write_line(sink, text.as_slice()),
@@ -55,23 +67,54 @@ fn write_text<K: Sink>(sink: &mut K, mut text: Text) -> Result<(), Status>
     }
 }
 
-/// Writes the last line.
-fn write_last<K: Sink>(
+/// The last line, where the trace has one.
+fn last_line(
     alloc: Global,
     world: &World,
-    status: Status,
-    sink: &mut K,
-) -> Result<(), Status>
-    ensures { Stopped (K.faults sink.old) (K.faults sink.new) result }
+    ended: Result<(), Status>,
+) -> Result<Option<Text>, AllocError>
+    ensures { IfOk result (λ text. text ≡ last_line world.now ended) }
 {
-    let text = match status {
-        Status::Done => end_text(alloc, world.events(), world.sent()).map(Some),
-        status => stop_text(alloc, status),
+    match ended {
+        Ok(()) => {
+            let text = end_text(alloc, world.events(), world.sent())?;
+            Ok(Some(text))
+        }
+        Err(status) => stop_text(alloc, status),
+    }
+}
+
+fn write_last<K: Sink>(sink: &mut K, line: Option<Text>) -> Result<(), Status>
+    ensures whole { OnOk result (K.written sink.new ≡ append_known (K.written sink.old) (closing_line line)) }
+    ensures front { IsFrontOf (K.written sink.old) (K.written sink.new) (closing_line line) }
+    ensures none { line ≡ None → K.written sink.new ≡ K.written sink.old }
+    ensures only { IfErr result (λ status. (status ≡ WriteFault) ⊎ (status ≡ Memory)) }
+    ensures stopped { Stopped (K.faults sink.old) (K.faults sink.new) result }
+{
+    match line {
+        Some(text) => write_text(sink, text),
+        None => Ok(()),
+    }
+}
+
+/// Writes the last line, and answers what the trace ends with.
+fn close<K: Sink>(alloc: Global, world: &World, ended: Result<(), Status>, sink: &mut K) -> Status
+    ensures closed { Closed (last_line world.now ended) (status_of ended) (K.written sink.old) (K.written sink.new) result }
+    ensures no_usage { ended ≢ Err Usage → result ≢ Usage }
+    ensures read_fault { result ≡ ReadFault → ended ≡ Err ReadFault }
+    ensures write_fault { result ≡ WriteFault → ended ≢ Err WriteFault → Rose (K.faults sink.old) (K.faults sink.new) }
+    ensures grows { K.faults sink.old ≤ K.faults sink.new }
+{
+    let line = match last_line(alloc, world, ended) {
+        Ok(line) => line,
+        Err(AllocError) => return Status::Memory,
     };
-    match text {
-        Ok(Some(text)) => write_text(sink, text),
-        Ok(None) => Ok(()),
-        Err(AllocError) => Err(Status::Memory),
+    match write_last(sink, line) {
+        Ok(()) => match ended {
+            Ok(()) => Status::Done,
+            Err(status) => status,
+        },
+        Err(status) => status,
     }
 }
 
@@ -81,6 +124,23 @@ fn copy_events(alloc: Global, events: &[Event]) -> Result<EventList, AllocError>
         made.push(event.copy()?)?;
     }
     Ok(made)
+}
+
+/// Runs the script to what ends it, and writes the last line.
+fn run_and_close<S: Source, K: Sink>(
+    alloc: Global,
+    session: &mut Session,
+    source: &mut S,
+    sink: &mut K,
+) -> Status
+    requires { IsUnderWay session.old }
+    ensures no_usage { result ≢ Usage }
+    ensures read_fault { result ≡ ReadFault → Rose (S.faults source.old) (S.faults source.new) }
+    ensures write_fault { result ≡ WriteFault → Rose (K.faults sink.old) (K.faults sink.new) }
+    ensures traced { (bytes : List ℕ) → S.left source.old ≡ Some bytes → Traced (reading_of session.old) bytes (K.written sink.old) (K.written sink.new) result }
+{
+    let ended = run_script(alloc, session, source, sink);
+    close(alloc, session.world(), ended, sink)
 }
 
 fn trace<S: Source, K: Sink>(
@@ -94,19 +154,13 @@ fn trace<S: Source, K: Sink>(
     ensures no_usage { result ≢ Usage }
     ensures read_fault { result ≡ ReadFault → Rose (S.faults source.old) (S.faults source.new) }
     ensures write_fault { result ≡ WriteFault → Rose (K.faults sink.old) (K.faults sink.new) }
+    ensures traced { (bytes : List ℕ) → S.left source.old ≡ Some bytes → Traced (first_reading shape.now) bytes (K.written sink.old) (K.written sink.new) result }
 {
     let Ok(world) = World::new(alloc, shape) else {
         return Status::Memory;
     };
     let mut session = Session::new(alloc, world);
-    let status = match run_script(alloc, &mut session, source, sink) {
-        Ok(()) => Status::Done,
-        Err(status) => status,
-    };
-    let status = match write_last(alloc, session.world(), status, sink) {
-        Ok(()) => status,
-        Err(status) => status,
-    };
+    let status = run_and_close(alloc, &mut session, source, sink);
     match copy_events(alloc, session.world().history()) {
         Ok(history) => {
             trail.history = history;
@@ -117,6 +171,11 @@ fn trace<S: Source, K: Sink>(
 }
 
 /// Traces the script that `source` has, as the words say, and writes what happens to `sink`.
+///
+/// The text that is written, and what the trace ends with, are the definitions `out` and `end_of` of
+/// `specs/Output.antt`, which read the script byte by byte. `Usage` is answered for words that ask for
+/// no trace, `BadLine(n)` where line n is the first that is outside the grammar or too long, `Limit(n)`
+/// where line n is one too many, or an event of it would send more than a world may.
 pub fn trace_top<S: Source, K: Sink>(
     alloc: Global,
     words: &TextList,
@@ -128,6 +187,12 @@ pub fn trace_top<S: Source, K: Sink>(
     ensures usage { result ≡ Usage → ¬ IsTraceWords words.now }
     ensures faulty { ¬ IsTraceWords words.now → (result ≡ Usage) ⊎ ((result ≡ WriteFault) ⊎ (result ≡ Memory)) }
     ensures unread { ¬ IsTraceWords words.now → source.new ≡ source.old }
+    ensures usage_text { result ≡ Usage → K.written sink.new ≡ append_known (K.written sink.old) (as_line (codes "usage")) }
+
+    // Where the words ask for a shape and the source tells its bytes: a trace of them ends as the script
+    // says, and what it says is written; where the source failed, the text of the lines that were read;
+    // and whatever happened, a front of that.
+    ensures traced { (shape : Dimensions) → AskFor words.now shape → (bytes : List ℕ) → S.left source.old ≡ Some bytes → Traced (first_reading shape) bytes (K.written sink.old) (K.written sink.new) result }
 
     // A fault is answered only where one was counted in this call.
     ensures read_fault { result ≡ ReadFault → Rose (S.faults source.old) (S.faults source.new) }
@@ -140,4 +205,148 @@ pub fn trace_top<S: Source, K: Sink>(
         };
     };
     trace(alloc, &shape, source, sink, trail)
+}
+
+#[cfg(test)]
+mod tests {
+    use super::*;
+    use io_edges::{MemSink, MemSource};
+    use std::process::Abort;
+    use std::test::Fail;
+
+    const SCRIPT: &[u8] = b"append c0 a\nflow 1 6\n";
+
+    const WHOLE: &[u8] = b"c0#1 invoked\nc0#1 acked\nend: 7 events, 6 messages\n";
+
+    fn words_of(alloc: Global, line: &[u8]) -> Result<TextList, Fail> {
+        let mut words = Sequence::new(alloc);
+        let mut word = Vec::new(alloc);
+        for byte in line {
+            if *byte == b' ' {
+                words.push(Text::from_vec(word))?;
+                word = Vec::new(alloc);
+            } else {
+                word.push(*byte)?;
+            }
+        }
+        words.push(Text::from_vec(word))?;
+        Ok(words)
+    }
+
+    /// Traces the script with these words, and compares what it ended with and what was written.
+    fn traces(
+        rt: &impl Abort,
+        alloc: Global,
+        words: &[u8],
+        script: &[u8],
+        reads: &[u64],
+        writes: &[u64],
+        want: (u8, &[u8]),
+    ) -> Result<(), Fail> {
+        let words = words_of(alloc, words)?;
+        let mut source = MemSource::new(alloc, script, reads)?;
+        let mut sink = MemSink::new(alloc, writes)?;
+        let mut trail = Trail::new(alloc);
+        let status = trace_top(alloc, &words, &mut source, &mut sink, &mut trail);
+        assert_eq!(rt; status.code(), want.0);
+        assert_eq!(rt; sink.written(), want.1);
+        Ok(())
+    }
+
+    #[test]
+    fn streams_fail(rt: HostRuntime) -> Result<(), Fail> {
+        let words = b"trace m 3 0 1 1 1".as_slice();
+        for (reads, writes, status, written) in [
+            ([].as_slice(), [].as_slice(), 0, WHOLE),
+            ([].as_slice(), [1].as_slice(), 5, b"".as_slice()),
+            (
+                [].as_slice(),
+                [2].as_slice(),
+                5,
+                b"c0#1 invoked\n".as_slice(),
+            ),
+            (
+                [].as_slice(),
+                [3].as_slice(),
+                5,
+                b"c0#1 invoked\nc0#1 acked\n".as_slice(),
+            ),
+            (
+                [1].as_slice(),
+                [].as_slice(),
+                4,
+                b"stopped: read fault\n".as_slice(),
+            ),
+            (
+                [2].as_slice(),
+                [].as_slice(),
+                4,
+                b"c0#1 invoked\nc0#1 acked\nstopped: read fault\n".as_slice(),
+            ),
+            (
+                [2].as_slice(),
+                [3].as_slice(),
+                5,
+                b"c0#1 invoked\nc0#1 acked\n".as_slice(),
+            ),
+        ] {
+            traces(
+                &rt,
+                rt.alloc(),
+                words,
+                SCRIPT,
+                reads,
+                writes,
+                (status, written),
+            )?;
+        }
+        Ok(())
+    }
+
+    #[test]
+    fn scripts_stop(rt: HostRuntime) -> Result<(), Fail> {
+        let empty = Vec::from_elem(rt.alloc(), b'\n', 100_001)?;
+        let words = b"trace m 3 0 1 1 1".as_slice();
+        for (words, script, status, written) in [
+            (
+                words,
+                b"hello".as_slice(),
+                3,
+                b"stopped: bad line 1\n".as_slice(),
+            ),
+            (
+                words,
+                b"#\n\ndeliver 01\nlines\n".as_slice(),
+                3,
+                b"stopped: bad line 3\n".as_slice(),
+            ),
+            (
+                words,
+                b"append c0 a b\n".as_slice(),
+                3,
+                b"stopped: bad line 1\n".as_slice(),
+            ),
+            (
+                b"trace m 0 0 1 1 1".as_slice(),
+                SCRIPT,
+                2,
+                b"usage\n".as_slice(),
+            ),
+            (
+                b"trace m 3 0 1 1".as_slice(),
+                SCRIPT,
+                2,
+                b"usage\n".as_slice(),
+            ),
+            (
+                words,
+                empty.as_slice(),
+                7,
+                b"stopped: limit at 100001\n".as_slice(),
+            ),
+        ] {
+            traces(&rt, rt.alloc(), words, script, &[], &[], (status, written))?;
+        }
+        Ok(())
+    }
 }

@@ -1,4 +1,3 @@
-use Rattle.std.proofs.Common.{◌≡◌}
 use Rattle.lazylog_trace.proofs.Counting.{after_so}
 use Rattle.lazylog_trace.proofs.handling.make.Goals as goal
 

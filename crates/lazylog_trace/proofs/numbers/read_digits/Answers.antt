@@ -1,4 +1,4 @@
-use Rattle.std.proofs.Common.{◌≡◌, ℕ, ◌+◌, ◌-◌, ◌*◌, ◌≤◌, get_or, drop, arith}
+use Rattle.std.proofs.Common.{◌+◌, ◌-◌, ◌*◌, get_or, drop, arith}
 use Rattle.lazylog_trace.specs.Digits.{IsDigit}
 use Rattle.lazylog_trace.proofs.Decimals.{value_grows, value_step}
 use Rattle.lazylog_trace.proofs.numbers.read_digits.Goals as goal

@@ -1,5 +1,10 @@
-use Rattle.std.proofs.Common.{◌≤◌}
+use Rattle.std.proofs.Common.{◌≤◌, drop}
+use Rattle.io_edges.specs.Telling.{Goes}
+use Rattle.lazylog_trace.specs.Output.{printed}
 use Rattle.lazylog_trace.proofs.session.write_lines.Given as goal
 
 abbrev pub invariant-loop-line : goal.invariant-loop-line
-invariant-loop-line g l = g.K.Sink.faults l.fn.sink ≤ g.K.Sink.faults l.sink
+invariant-loop-line g l = record {
+  goes : Goes (g.K.Sink.written l.fn.sink) (g.K.Sink.written l.sink) (printed l.lines) (printed (drop l.line-index l.lines));
+  grows : g.K.Sink.faults l.fn.sink ≤ g.K.Sink.faults l.sink;
+}

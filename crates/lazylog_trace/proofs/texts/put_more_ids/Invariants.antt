@@ -1,5 +1,5 @@
 use Rattle.std.proofs.Common.{◌≡◌, ◌++◌, drop}
-use Rattle.lazylog_trace.specs.Texts.{id_text, spaced}
+use Rattle.log_texts.specs.Texts.{id_text, spaced}
 use Rattle.lazylog_trace.proofs.texts.put_more_ids.Given as goal
 
 -- what stands there, and what is still to come

@@ -1,4 +1,4 @@
-use Rattle.std.proofs.Common.{rules, refl, arith}
+use Rattle.std.proofs.Common.{rules, refl}
 use Rattle.view_config.specs.Shape.{Dimensions}
 use Rattle.view_config.specs.declared.edition.Edition.TheVariants.{One}
 use Rattle.view_config.specs.declared.edition.Mode.TheVariants.{M}

@@ -16,8 +16,6 @@ use Rattle.lazy_msgs.specs.declared.refused.SuspectRefused.{SuspectRefused}
 use Rattle.lazy_msgs.specs.declared.refused.SuspectRefused.TheVariants.{NotInView, LastSeq, LastOfShard, ViewsSpent, Over as SuspectOver, Memory as SuspectMemory}
 use Rattle.lazy_msgs.specs.declared.refused.EventRefused.{EventRefused}
 use Rattle.lazy_msgs.specs.declared.refused.EventRefused.TheVariants.{NoNode, NoMessage, IsClaim, NotClaim, Crashed, NoTrim, Post, Begin as BeginRefusedSo, Suspect, Trim, Backward, Wide, NotYet, Spent, Memory}
-use Rattle.io_edges.specs.declared.status.Status.{Status}
-use Rattle.io_edges.specs.declared.status.Status.TheVariants.{BadLine, ReadFault, Limit}
 
 -- an identity
 abbrev pub id_text : Identity → List ℕ
@@ -154,10 +152,3 @@ lost_text holder shard = codes "line " ++ (holder_text holder ++ (codes ": lost 
 -- the last line of a script that was read to its end
 abbrev pub end_text : ℕ → ℕ → List ℕ
 end_text events messages = codes "end: " ++ (decimal events ++ (codes " events, " ++ (decimal messages ++ codes " messages")))
-
--- the last line of a script that was stopped, where such a stop has one
-abbrev pub stop_text : Status → Option (List ℕ)
-stop_text (BadLine line) = Some (codes "stopped: bad line " ++ decimal line)
-stop_text (Limit line) = Some (codes "stopped: limit at " ++ decimal line)
-stop_text ReadFault = Some (codes "stopped: read fault")
-stop_text _ = None

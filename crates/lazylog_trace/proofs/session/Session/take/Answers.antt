@@ -1,0 +1,19 @@
+use Rattle.std.proofs.Common.{get_or, refl, arith}
+use Rattle.lazylog_trace.specs.Session.{reading_of}
+use Rattle.lazylog_trace.proofs.ByteTells.{one_more, stop_at}
+use Rattle.lazylog_trace.proofs.session.Session.take.Goals as goal
+
+pub returns-in-Err-clause-tells : goal.returns-in-Err-clause-tells
+returns-in-Err-clause-tells g c =
+    stop_at (reading_of c.args.self.now) (reading_of c.loop-byte.self) _ c.args.bytes.now c.loop-byte.byte-index (get_or c.args.bytes.now c.loop-byte.byte-index 0) (g.K.Sink.written c.args.sink.now) (g.K.Sink.written c.loop-byte.sink) (g.K.Sink.written c.take_byte.new.sink) _ (omega arith) refl c.loop-byte.invariant.so_far c.in-Err.ensures.tells
+
+pub loop-byte-preserved : goal.loop-byte-preserved
+loop-byte-preserved g c =
+    let so_far = c.loop-byte.invariant in
+    let now = c.in-Ok.ensures in
+    record {
+      kept = now.kept;
+      nearer = omega (arith, so_far.nearer, now.nearer);
+      so_far = one_more (reading_of c.args.self.now) (reading_of c.loop-byte.self) _ c.args.bytes.now c.loop-byte.byte-index (get_or c.args.bytes.now c.loop-byte.byte-index 0) (g.K.Sink.written c.args.sink.now) (g.K.Sink.written c.loop-byte.sink) (g.K.Sink.written c.take_byte.new.sink) _ (omega arith) refl so_far.so_far now.tells;
+      grows = omega (arith, so_far.grows, now.stopped.grows);
+    }
