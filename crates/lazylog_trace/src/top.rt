@@ -118,7 +118,9 @@ fn close<K: Sink>(alloc: Global, world: &World, ended: Result<(), Status>, sink:
     }
 }
 
-fn copy_events(alloc: Global, events: &[Event]) -> Result<EventList, AllocError> {
+fn copy_events(alloc: Global, events: &[Event]) -> Result<EventList, AllocError>
+    ensures { IfOk result (λ made. made ≡ events.now) }
+{
     let mut made = Sequence::new(alloc);
     for event in events {
         made.push(event.copy()?)?;
