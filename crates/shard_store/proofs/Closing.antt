@@ -301,3 +301,15 @@ open_few n (x ∷ xs) = by_test (is_open x.body) (open_few (n + 1) xs)
     by_test : (b : Bool) → length (open_from (n + 1) xs) ≤ length xs → length (cond b (n ∷ open_from (n + 1) xs) (open_from (n + 1) xs)) ≤ suc (length xs)
     by_test true rest = omega arith
     by_test false rest = omega arith
+
+pub given_one : (cells : List Cell) (place : ℕ) → place < length cells → IsGivenUp place (place + 1) cells (set cells place (given_up_cell (get_or cells place blank)))
+given_one cells place inside =
+    let cell = given_up_cell (get_or cells place blank) in
+    record {
+      len = length-set cells place cell;
+      within = λ k from to.
+          let here : k ≡ place = omega arith in
+          ap (λ (n : ℕ). get_or (set cells place cell) n blank) here ∙ get_or-set_same cells place cell blank inside ∙ ap (λ (n : ℕ). given_up_cell (get_or cells n blank)) (sym here);
+      below = λ k early. get_or-set_other cells place k cell blank (λ same. omega (arith, same));
+      above = λ k late. get_or-set_other cells place k cell blank (λ same. omega (arith, same));
+    }

@@ -4,6 +4,7 @@ pub mod Indexed
 pub mod Positions
 pub mod Identities
 pub mod Holdings
+pub mod HeldCells
 pub mod Closing
 pub mod Searches
 pub mod Extending

@@ -1,6 +1,9 @@
-use Rattle.std.specs.Prelude.{ℕ, List, [], ◌∷◌, Bool, true, not, ◌&&◌}
+use Rattle.std.specs.Prelude.{ℕ, List, [], ◌∷◌, ◌++◌, Bool, true, not, ◌&&◌}
 use Rattle.std.specs.List.{list_any}
 use Rattle.rec_id.specs.Identity.{Identity}
+use Rattle.rec_id.specs.declared.item.Cell.{Cell}
+use Rattle.rec_id.specs.declared.item.Body.{Body}
+use Rattle.rec_id.specs.declared.item.Body.TheVariants.{Kept}
 use Rattle.lazy_rules.specs.Ids.{same_id}
 
 -- records that are held, and for how many more there is room
@@ -16,3 +19,12 @@ is_held held id = list_any (λ one. same_id one.0 id) held
 abbrev pub is_distinct : List (Identity × List ℕ) → Bool
 is_distinct [] = true
 is_distinct (one ∷ others) = not (is_held others one.0) && is_distinct others
+
+-- the records whose data is in these cells
+abbrev pub record_in : Identity → Body → List (Identity × List ℕ)
+record_in id (Kept bytes) = (id, bytes) ∷ []
+record_in id _ = []
+
+abbrev pub records_in : List Cell → List (Identity × List ℕ)
+records_in [] = []
+records_in (cell ∷ cells) = record_in cell.id cell.body ++ records_in cells

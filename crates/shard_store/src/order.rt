@@ -1,17 +1,18 @@
 //! The order of all records, found by their identities.
 
-ghost use Rattle.std.specs.Prelude.{◌≡◌, ◌+◌, ◌-◌, ◌^◌, ◌<◌, ◌≤◌, ◌++◌, ◌∷◌, [], ◌==◌, true, false, map, filter, slice_set, ℕ, List, length, position, slice_get, Some, OnOk, vec_len, vec_capacity};
+ghost use Rattle.std.specs.Prelude.{◌≡◌, ◌+◌, ◌-◌, ◌^◌, ◌<◌, ◌≤◌, ◌++◌, ◌∷◌, ◌⊎◌, [], ◌==◌, true, false, map, filter, slice_set, ℕ, List, length, position, slice_get, Some, OnOk, vec_len, vec_capacity};
 ghost use Rattle.std.specs.List.{remove, position_or_len};
-ghost use Rattle.lazy_rules.specs.Store.{is_cell_of, is_open, closed_cell};
+ghost use Rattle.lazy_rules.specs.Store.{bytes_in, given_up, given_up_cell, is_cell_of, is_open, closed_cell};
 ghost use Rattle.shard_store.specs.Links.{cell_at};
 ghost use Rattle.shard_store.specs.Kinds.{is_of};
 ghost use Rattle.shard_store.specs.Places.{Places, open_from, IsGivenUp, IsClosing};
 
 use crate::kinds::{Kind, is_cell_of, is_of};
 use crate::links::{bucket, make_buckets};
-use rec_id::{Body, Cell, RecordId};
+use rec_id::{Body, Bytes, Cell, RecordId};
 use std::alloc::{AllocError, Global};
 use std::marker::Model;
+use std::mem;
 
 /// Cells in their order, with room for so many more.
 #[derive(Drop)]
@@ -73,6 +74,17 @@ impl Order {
         self.cells.len() as u32
     }
 
+    /// How many cells more there is room for.
+    pub(crate) fn spare(&self) -> usize
+        ensures { result ≡ self.now.spare }
+    {
+        self.spare
+    }
+
+    pub(crate) fn allocator(&self) -> Global {
+        *self.cells.allocator()
+    }
+
     /// The cell at `place`.
     pub(crate) fn cell(&self, place: u32) -> &Cell
         requires { place < length self.now.cells }
@@ -112,6 +124,7 @@ impl Order {
         requires { more < 2 ^ 32 }
         ensures cells { self.new.cells ≡ self.old.cells }
         ensures room { OnOk result (more ≤ self.new.spare) }
+        ensures spare { (self.new.spare ≡ self.old.spare) ⊎ (self.old.spare ≤ more) × (self.new.spare ≡ more) }
     {
         if more <= self.spare {
             return Ok(());
@@ -176,6 +189,15 @@ impl Order {
         count
     }
 
+    /// Takes the data of the cell at `place` out, which is then given up.
+    pub(crate) fn take_data(&mut self, place: u32) -> Option<Bytes>
+        requires { place < length self.old.cells }
+        ensures bytes { result ≡ bytes_in (cell_at self.old.cells place).body }
+        ensures cells { self.new ≡ record self.old { cells = slice_set self.old.cells place (given_up_cell (cell_at self.old.cells place)) } }
+    {
+        take_bytes(&mut self.cells, place as usize)
+    }
+
     /// Gives the kept data of the cells of `[from, to)` up.
     pub(crate) fn give_up(&mut self, from: u32, to: u32)
         requires range { (from ≤ to) × (to ≤ length self.old.cells) }
@@ -184,6 +206,30 @@ impl Order {
     {
         give_up_cells(&mut self.cells, from as usize, to as usize);
     }
+}
+
+/// Takes the data of the cell at `place` out, which is then given up.
+fn take_bytes(cells: &mut [Cell], place: usize) -> Option<Bytes>
+    requires { place < length cells.old }
+    ensures bytes { result ≡ bytes_in (cell_at cells.old place).body }
+    ensures cells { cells.new ≡ slice_set cells.old place (given_up_cell (cell_at cells.old place)) }
+{
+    take_body(&mut cells[place].body)
+}
+
+/// Takes the data of a body out, which is then given up.
+fn take_body(body: &mut Body) -> Option<Bytes>
+    ensures bytes { result ≡ bytes_in body.old }
+    ensures body { body.new ≡ given_up body.old }
+{
+    match mem::replace(body, Body::Gone) {
+        Body::Kept(bytes) => return Some(bytes),
+        Body::Elsewhere => *body = Body::Elsewhere,
+        Body::Noop => *body = Body::Noop,
+        Body::Open => *body = Body::Open,
+        Body::Gone => {}
+    }
+    None
 }
 
 /// Takes off the last of some members.

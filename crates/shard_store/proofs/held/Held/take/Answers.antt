@@ -1,41 +1,58 @@
-use Rattle.std.proofs.Common.{◌≡◌, List, None, Some, false, not, ap, ◌∙◌, sym}
+use Rattle.std.proofs.Common.{◌≡◌, ℕ, None, Some, get_or, sym, ap, ◌∙◌, arith}
 use Rattle.std.specs.List.{position}
+use Rattle.std.specs.Prelude.{not}
+use Rattle.std.proofs.Math.ListN.{set, length-set}
+use Rattle.std.proofs.lemmas.Option.{slice_get-get_or}
 use Rattle.lazy_rules.specs.Ids.{same_id}
-use Rattle.lazy_rules.specs.Store.{held_bytes, without_held}
-use Rattle.shard_store.specs.Holding.{Holding, is_held, is_distinct}
-use Rattle.shard_store.proofs.Positions.{none_passes}
-use Rattle.shard_store.proofs.Holdings.{Pair, is_of_id, found_bytes, found_rest, absent_bytes, absent_without, distinct_filter}
+use Rattle.lazy_rules.specs.Store.{held_bytes, without_held, given_up_cell}
+use Rattle.shard_store.specs.Links.{blank}
+use Rattle.shard_store.specs.Places.{Places}
+use Rattle.shard_store.specs.Holding.{Holding, is_distinct, records_in}
+use Rattle.shard_store.proofs.Positions.{position_some}
+use Rattle.shard_store.proofs.Searches.{kept_found, kept_none}
+use Rattle.shard_store.proofs.Holdings.{Pair, no_bytes_absent, absent_without, distinct_filter}
+use Rattle.shard_store.proofs.HeldCells.{is_mine, held_is_kept, given_is_without}
 use Rattle.shard_store.proofs.held.Held.take.Goals as goal
 
-same_records : (c : goal.After-remove) → c.self.inside.records.items ≡ c.args.self.now.records
-same_records c = ap (λ (held : Holding). held.records) c.self.view_is
+found : (c : goal.After-take_data) → Some c.in-Some.place ≡ position (is_mine c.args.id) c.self.inside.cells.cells
+found c = sym c.in-Some.is ∙ c.first.ensures
 
-found : (c : goal.After-remove) → Some c.in-Some.i ≡ position (is_of_id c.args.id) c.self.inside.records.items
-found c =
-    sym c.in-Some.is ∙ c.find.ensures ∙ ap (λ (l : List Pair). position (is_of_id c.args.id) l) (sym (same_records c))
-
-rest : (c : goal.After-remove) → c.remove.new.self.items ≡ without_held c.self.inside.records.items c.args.id
-rest c = c.remove.ensures.items ∙ found_rest c.self.inside.records.items c.args.id c.in-Some.i c.self.invariant (found c)
+rest : (c : goal.After-take_data) → records_in c.take_data.new.self.cells ≡ without_held (records_in c.self.inside.cells.cells) c.args.id
+rest c =
+    let cells = c.self.inside.cells.cells in
+    let facts = position_some (is_mine c.args.id) cells c.in-Some.place (found c) in
+    ap (λ (o : Places). records_in o.cells) c.take_data.ensures.cells
+    ∙ ap (λ (k : ℕ). records_in (set cells k (given_up_cell (get_or cells k blank)))) facts.1
+    ∙ given_is_without cells c.args.id c.self.invariant.0 facts.0
 
 pub invariant_of-self : goal.invariant_of-self
 invariant_of-self c =
-    ap is_distinct (rest c) ∙ distinct_filter (λ (one : Pair). not (same_id one.0 c.args.id)) c.self.inside.records.items c.self.invariant
+    let cells = c.self.inside.cells.cells in
+    let len = length-set cells c.in-Some.place (given_up_cell (get_or cells c.in-Some.place blank)) in (
+      ap is_distinct (rest c) ∙ distinct_filter (λ (one : Pair). not (same_id one.0 c.args.id)) (records_in cells) c.self.invariant.0,
+      rw c.take_data.ensures.cells (omega (arith, len, c.self.invariant.1)),
+    )
+
+pub returns-in-Some-clause-rest : goal.returns-in-Some-clause-rest
+returns-in-Some-clause-rest c = rest c ∙ ap (λ (held : Holding). without_held held.records c.args.id) c.self.view_is
+
+none : (c : goal.In-None) → held_bytes (records_in c.self.inside.cells.cells) c.args.id ≡ None
+none c = held_is_kept c.self.inside.cells.cells c.args.id ∙ kept_none c.self.inside.cells.cells c.args.id (sym c.in-None.is ∙ c.first.ensures)
+
+pub returns-in-None-clause-bytes : goal.returns-in-None-clause-bytes
+returns-in-None-clause-bytes c = sym (none c) ∙ ap (λ (held : Holding). held_bytes held.records c.args.id) c.self.view_is
+
+pub returns-in-None-clause-rest : goal.returns-in-None-clause-rest
+returns-in-None-clause-rest c =
+    let records = records_in c.self.inside.cells.cells in
+    sym (ap (λ (held : Holding). without_held held.records c.args.id) (sym c.self.view_is)
+    ∙ absent_without records c.args.id (no_bytes_absent records c.args.id (none c))
+    ∙ ap (λ (held : Holding). held.records) c.self.view_is)
 
 pub returns-in-Some-clause-bytes : goal.returns-in-Some-clause-bytes
 returns-in-Some-clause-bytes c =
-    found_bytes c.self.inside.records.items c.args.id c.in-Some.i c.remove.result (found c) c.remove.ensures.value
-    ∙ ap (λ (l : List Pair). held_bytes l c.args.id) (same_records c)
-
-pub returns-in-Some-clause-rest : goal.returns-in-Some-clause-rest
-returns-in-Some-clause-rest c = rest c ∙ ap (λ (l : List Pair). without_held l c.args.id) (same_records c)
-
-absent : (c : goal.In-None) → is_held c.args.self.now.records c.args.id ≡ false
-absent c =
-    let missing : None ≡ position (is_of_id c.args.id) c.args.self.now.records = sym c.in-None.is ∙ c.find.ensures in
-    none_passes (is_of_id c.args.id) c.args.self.now.records missing
-
-pub returns-in-None-clause-bytes : goal.returns-in-None-clause-bytes
-returns-in-None-clause-bytes c = sym (absent_bytes c.args.self.now.records c.args.id (absent c))
-
-pub returns-in-None-clause-rest : goal.returns-in-None-clause-rest
-returns-in-None-clause-rest c = sym (absent_without c.args.self.now.records c.args.id (absent c))
+    let cells = c.self.inside.cells.cells in
+    let facts = position_some (is_mine c.args.id) cells c.in-Some.place (found c) in
+    c.take_data.ensures.bytes
+    ∙ kept_found cells c.args.id c.in-Some.place (get_or cells c.in-Some.place blank) (found c) (slice_get-get_or cells c.in-Some.place blank (omega (arith, facts.0, facts.1)))
+    ∙ sym (held_is_kept cells c.args.id) ∙ ap (λ (held : Holding). held_bytes held.records c.args.id) c.self.view_is
