@@ -1,5 +1,5 @@
 -- Worlds that events lead to.
-use Rattle.std.proofs.Common.{◌≡◌, ℕ, ◌-◌, ◌<◌, List, [], ◌∷◌, ◌++◌, map, true, Option, Some, None, refl, sym, ap, ◌∙◌, subst, arith}
+use Rattle.std.proofs.Common.{◌≡◌, ℕ, ◌-◌, ◌<◌, List, [], ◌∷◌, ◌++◌, ◌+◌, length-append, map, true, Option, Some, None, refl, sym, ap, ◌∙◌, subst, arith}
 use Rattle.std.specs.Prelude.{◌==◌, Result, Ok, Err, IfOk, slice_get}
 use Rattle.std.proofs.lemmas.Bool.{eqb-true}
 use Rattle.list_facts.specs.Lists.{In, Each}
@@ -9,7 +9,8 @@ use Rattle.log_safety.proofs.Facts.{ItemFacts}
 use Rattle.log_safety.proofs.Parts.{Ghost}
 use Rattle.log_safety.proofs.Worlds.{Holds}
 use Rattle.log_safety.proofs.Beginning.{holds_first}
-use Rattle.log_safety.proofs.Runs.{run_kept}
+use Rattle.log_safety.proofs.Runs.{run_append, run_kept}
+use Rattle.log_safety.proofs.Counts.{event_counts}
 use Rattle.log_safety.proofs.HolderLines.{holder_member, holder_lawful, told_is, is_here, facts, item_is, s as seq_held}
 use Rattle.rec_id.specs.Lawful.{Lawful}
 use Rattle.rec_id.specs.declared.entry.Entry.{Entry}
@@ -28,11 +29,7 @@ use Rattle.lazy_rules.specs.WorldState.{WorldState, first_world}
 use Rattle.lazy_rules.specs.WorldRules.{after, accepted, happened, refusal, run}
 use Rattle.lazy_core.specs.Early.{holders_of, line_of, entry_of, bytes_of}
 use Rattle.lazy_core.specs.Happens.{HappensIn}
-use Rattle.lazy_core.specs.Reached.{IsReached}
-
-run_more : (events : List WorldEvent) (event : WorldEvent) (w : WorldState) → run (events ++ event ∷ []) w ≡ happened (run events w) event
-run_more [] event w = refl
-run_more (first ∷ events) event w = run_more events event (happened w first)
+use Rattle.lazy_core.specs.Reached.{Appends, AreAccepted, IsReached}
 
 abbrev no_ghost : Ghost
 no_ghost = record { line = [] }
@@ -41,19 +38,38 @@ no_ghost = record { line = [] }
 holds_of : (w : WorldState) (r : IsReached w) → Holds r.shape no_ghost w
 holds_of w r = subst (Holds r.shape no_ghost) (sym r.is) (run_kept r.shape r.formed no_ghost r.events (first_world r.shape) r.built (holds_first r.shape))
 
--- one event more
-reached_more : (w : WorldState) (event : WorldEvent) → IsReached w → IsBuilt w.shape event → refusal w event ≡ None → IsReached (after w event)
-reached_more w event r built allowed = record {
-  shape = r.shape;
-  formed = r.formed;
-  events = r.events ++ event ∷ [];
-  built = each_append (IsBuilt r.shape) r.events (event ∷ []) r.built (subst (λ (d : Dimensions). IsBuilt d event) (holds_of w r).shaped built, tt);
-  is = ap (accepted w event) (sym allowed) ∙ ap (λ (x : WorldState). happened x event) r.is ∙ sym (run_more r.events event (first_world r.shape));
-}
+accepted_more : (events : List WorldEvent) (event : WorldEvent) (w : WorldState) → AreAccepted events w → refusal (run events w) event ≡ None → AreAccepted (events ++ event ∷ []) w
+accepted_more [] event w h allowed = (allowed, tt)
+accepted_more (first ∷ events) event w h allowed = (h.0, accepted_more events event (happened w first) h.1 allowed)
 
-pub reached_after : (F : Type 0) (w new : WorldState) (event : WorldEvent) (outcome : Result (Unit {0}) EventRefused) → IsReached w → IsBuilt w.shape event → HappensIn F (after w event) (refusal w event) w new outcome → IsReached new
-reached_after F w new event (Ok done) r built h = subst IsReached (sym h.happened) (reached_more w event r built h.allowed)
-reached_after F w new event (Err refused) r built h = subst IsReached (sym h.unchanged) r
+-- one event more
+reached_more : (w : WorldState) (event : WorldEvent) (r : IsReached w) → IsBuilt w.shape event → refusal w event ≡ None → (s : IsReached (after w event)) × (s.events ≡ r.events ++ event ∷ [])
+reached_more w event r built allowed = (
+  record {
+    shape = r.shape;
+    formed = r.formed;
+    events = r.events ++ event ∷ [];
+    built = each_append (IsBuilt r.shape) r.events (event ∷ []) r.built (own_built, tt);
+    accepted = accepted_more r.events event (first_world r.shape) r.accepted (subst (λ (x : WorldState). refusal x event ≡ None) r.is allowed);
+    counted = event_counts r.shape r.formed no_ghost w (holds_of w r) event own_built allowed ∙ ap (λ (n : ℕ). n + 1) r.counted ∙ sym (length-append r.events (event ∷ []));
+    is = ap (accepted w event) (sym allowed) ∙ ap (λ (x : WorldState). happened x event) r.is ∙ sym (run_append r.events (event ∷ []) (first_world r.shape));
+  },
+  refl,
+)
+  where
+    own_built : IsBuilt r.shape event
+    own_built = subst (λ (d : Dimensions). IsBuilt d event) (holds_of w r).shaped built
+
+module _ (F : Type 0) (w new : WorldState) (event : WorldEvent) where
+  pub reached_after : (outcome : Result (Unit {0}) EventRefused) → IsReached w → IsBuilt w.shape event → HappensIn F (after w event) (refusal w event) w new outcome → IsReached new
+  reached_after (Ok done) r built h = subst IsReached (sym h.happened) (reached_more w event r built h.allowed).0
+  reached_after (Err refused) r built h = subst IsReached (sym h.unchanged) r
+
+  pub appends_after : (outcome : Result (Unit {0}) EventRefused) → IsBuilt w.shape event → HappensIn F (after w event) (refusal w event) w new outcome → Appends event w new outcome
+  appends_after (Ok done) built h = record {
+    appended = λ r. subst (λ (x : WorldState). (s : IsReached x) × (s.events ≡ r.events ++ event ∷ [])) (sym h.happened) (reached_more w event r built h.allowed);
+  }
+  appends_after (Err refused) built h = record { appended = λ r. tt }
 
 -- the holders are those of view 1
 pub holders_same : (w : WorldState) → IsReached w → holders w ≡ holders_of w

@@ -4,3 +4,4 @@ pub mod Happens
 pub mod Ledger
 pub mod WorldView
 pub mod Reached
+pub mod Filled

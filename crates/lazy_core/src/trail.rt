@@ -1,13 +1,20 @@
-//! What is left of a run once it is closed.
+//! What is left of a run once it is closed: what clients did and were told, the line of each holder,
+//! and what the nodes noted.
 //!
 //! A trail only holds what its maker puts in it.
 
-ghost use Rattle.std.specs.Prelude.{◌≡◌, []};
+ghost use Rattle.std.specs.Prelude.{◌≡◌, ◌++◌, [], true, IfOk, OnOk, OnErr};
+ghost use Rattle.std.specs.List.{flat_map};
+ghost use Rattle.lazy_rules.specs.Holders.{holders};
+ghost use Rattle.lazy_rules.specs.Rows.{has_node};
+ghost use Rattle.lazy_core.specs.Filled.{AreLawful, IsFilled, spared_line, spared_lines};
 
+use crate::line::LineError;
+use crate::world::World;
 use lazy_msgs::{Input, SendList};
 use plain_lists::Sequence;
-use rec_id::{EventList, Line, Words};
-use std::alloc::Global;
+use rec_id::{Event, EventList, Line, Words};
+use std::alloc::{AllocError, Global};
 
 /// One step of a node: its Lamport time, what the node took, and what it sent.
 #[derive(Drop)]
@@ -61,4 +68,62 @@ impl Trail {
             claimed: 0,
         }
     }
+
+    /// Fills in what is left of a world: its history, and the line of each holder whose line isn't
+    /// lost, in the order of the holders. Where there is no memory for all of it, nothing is filled in.
+    pub fn fill(&mut self, alloc: Global, world: &World) -> Result<(), AllocError>
+        ensures filled { OnOk result (IsFilled world.now self.old self.new) }
+        ensures unfilled { OnErr result (self.new ≡ self.old) }
+    {
+        let history = copy_events(alloc, world.history())?;
+        let lines = lines_of(alloc, world)?;
+        self.history = history;
+        self.lines = lines;
+        Ok(())
+    }
+}
+
+fn copy_events(alloc: Global, events: &[Event]) -> Result<EventList, AllocError>
+    ensures { IfOk result (λ made. made ≡ events.now) }
+{
+    let mut made = Sequence::new(alloc);
+    for event in events {
+        made.push(event.copy()?)?;
+    }
+    Ok(made)
+}
+
+/// Adds the line of one holder, if it isn't lost.
+fn add_line(world: &World, holder: u32, lines: &mut HolderLines) -> Result<(), AllocError>
+    requires holds { has_node (holders world.now) holder ≡ true }
+    requires so_far { AreLawful world.now.history lines.old }
+    ensures added { OnOk result (lines.new ≡ lines.old ++ spared_line world.now holder) }
+    ensures lawful { OnOk result (AreLawful world.now.history lines.new) }
+{
+    match world.line(holder) {
+        Ok(line) => lines.push(HolderLine { holder, line }),
+        Err(LineError::Lost(_)) => Ok(()),
+        Err(LineError::Memory) => Err(AllocError),
+    }
+}
+
+/// The lines of these, who are all the holders.
+fn lines_at(alloc: Global, world: &World, nodes: &[u32]) -> Result<HolderLines, AllocError>
+    requires { nodes.now ≡ holders world.now }
+    ensures lines { IfOk result (λ lines. lines ≡ flat_map (spared_line world.now) nodes.now) }
+    ensures lawful { IfOk result (λ lines. AreLawful world.now.history lines) }
+{
+    let mut lines = Sequence::new(alloc);
+    for holder in nodes {
+        add_line(world, *holder, &mut lines)?;
+    }
+    Ok(lines)
+}
+
+fn lines_of(alloc: Global, world: &World) -> Result<HolderLines, AllocError>
+    ensures lines { IfOk result (λ lines. lines ≡ spared_lines world.now) }
+    ensures lawful { IfOk result (λ lines. AreLawful world.now.history lines) }
+{
+    let holders = world.holders()?;
+    lines_at(alloc, world, holders.as_slice())
 }

@@ -14,6 +14,7 @@ ghost use Rattle.lazy_rules.specs.WorldState.{first_world};
 ghost use Rattle.lazy_rules.specs.WorldRules.{IsWithinLimits, after, message_at, refusal, run};
 ghost use Rattle.log_safety.specs.Built.{IsBuilt};
 ghost use Rattle.lazy_core.specs.Happens.{HappensIn};
+ghost use Rattle.lazy_core.specs.Reached.{Appends, IsReached};
 ghost use Rattle.lazy_core.specs.declared.line.LineError.{LineError};
 
 use crate::nodes::Nodes;
@@ -52,11 +53,13 @@ impl World {
         })
     }
 
-    /// One event. It is refused in the order of [`EventRefused`], and then nothing is changed.
+    /// One event. It is refused in the order of [`EventRefused`], and then nothing is changed. An
+    /// accepted one stands behind those that led to the world before.
     pub fn event(&mut self, event: &WorldEvent) -> Result<(), EventRefused>
         requires built { IsBuilt self.old.shape event.now }
         requires countable { self.old.events + 1 < 2 ^ 32 }
-        ensures { HappensIn (IsWithinLimits (after self.old event.now)) (after self.old event.now) (refusal self.old event.now) self.old self.new result }
+        ensures appends { Appends event.now self.old self.new result }
+        ensures happens { HappensIn (IsWithinLimits (after self.old event.now)) (after self.old event.now) (refusal self.old event.now) self.old self.new result }
     {
         self.nodes.event(event)
     }
@@ -82,9 +85,10 @@ impl World {
         self.nodes.sent()
     }
 
-    /// How many events were accepted.
+    /// How many events were accepted: as many as led to this world from the first one.
     pub fn events(&self) -> u32
-        ensures { result ≡ self.now.events }
+        ensures count { result ≡ self.now.events }
+        ensures reached { IsReached self.now }
     {
         self.nodes.events()
     }

@@ -7,7 +7,14 @@ use Rattle.std.proofs.lemmas.List.{take-append-drop, drop_more, take_more}
 use Rattle.view_config.specs.Limits.{line_limit}
 use Rattle.io_edges.specs.declared.status.Status.{Status}
 use Rattle.io_edges.proofs.TellingLemmas.{append_known-nil, append_known-append, goes_on as goes_piece, stops_further, stops_within, stops_same}
-use Rattle.lazylog_trace.specs.Output.{Reading, Told, Tells, line_told, long_told, byte_told, goes_on, further, further_from, told}
+use Rattle.io_edges.specs.declared.status.Status.TheVariants.{WriteFault, Memory}
+use Rattle.lazy_msgs.specs.declared.input.WorldEvent.{WorldEvent}
+use Rattle.lazy_rules.specs.WorldRules.{run}
+use Rattle.io_edges.specs.Telling.{Stops}
+use Rattle.lazylog_trace.specs.Traced.{FailedIn, Led, Tells}
+use Rattle.log_safety.proofs.Runs.{run_append}
+use Rattle.lazylog_trace.proofs.Following.{told_follows}
+use Rattle.lazylog_trace.specs.Output.{Reading, Told, behind, line_told, long_told, byte_told, goes_on, further, further_from, told}
 
 module _ (r : Reading) (byte : ℕ) where
   newline_told : byte ≡ 10 → byte_told r byte ≡ line_told r
@@ -40,11 +47,11 @@ module _ (r : Reading) (byte : ℕ) where
 
 -- what was told further
 
-pub further_ok : (t : Told) (r : Reading) (more : Reading → Told) → t.now ≡ Ok r → further t more ≡ record { text = t.text ++ (more r).text; now = (more r).now }
-further_ok t r more is = ap (λ (n : Result Reading Status). further_from t.text n more) is
+pub further_ok : (t : Told) (r : Reading) (more : Reading → Told) → t.now ≡ Ok r → further t more ≡ behind t (more r)
+further_ok t r more is = ap (λ (n : Result Reading Status). further_from t n more) is
 
 pub further_err : (t : Told) (status : Status) (more : Reading → Told) → t.now ≡ Err status → further t more ≡ t
-further_err t status more is = ap (λ (n : Result Reading Status). further_from t.text n more) is ∙ ap (λ (n : Result Reading Status). record { text = t.text; now = n }) (sym is)
+further_err t status more is = ap (λ (n : Result Reading Status). further_from t n more) is
 
 -- after some bytes it went on, and here is what was written
 pub record SoFar (start : Reading) (bytes : List ℕ) (before after : Option (List ℕ)) (now : Reading) : Type 0 where
@@ -54,9 +61,11 @@ pub record SoFar (start : Reading) (bytes : List ℕ) (before after : Option (Li
 pub none_yet : (r : Reading) (known : Option (List ℕ)) → SoFar r [] known known r
 none_yet r known = record { on = refl; written = sym (append_known-nil known) }
 
--- bytes in two pieces
-abbrev pub behind : Told → Told → Told
-behind first second = record { text = first.text ++ second.text; now = second.now }
+-- three parts
+behind_assoc : (first second third : Told) → behind (behind first second) third ≡ behind first (behind second third)
+behind_assoc first second third =
+    ap (λ (text : List ℕ). record { text = text; events = (first.events ++ second.events) ++ third.events; now = third.now }) (append_assoc first.text second.text third.text)
+    ∙ ap (λ (events : List WorldEvent). record { text = first.text ++ (second.text ++ third.text); events = events; now = third.now }) (append_assoc first.events second.events third.events)
 
 pieces_from : (t : Told) (now : Reading) (bytes more : List ℕ) → ((x : Reading) → (told x bytes).now ≡ Ok now → told x (bytes ++ more) ≡ behind (told x bytes) (told now more)) → (n : Result Reading Status) → t.now ≡ n → (further t (λ x. told x bytes)).now ≡ Ok now → further t (λ x. told x (bytes ++ more)) ≡ behind (further t (λ x. told x bytes)) (told now more)
 pieces_from t now bytes more later (Err status) e on =
@@ -67,8 +76,8 @@ pieces_from t now bytes more later (Ok next) e on =
     let then_on : (told next bytes).now ≡ Ok now = sym (ap (λ (x : Told). x.now) first) ∙ on in
     let rest = later next then_on in
     further_ok t next (λ x. told x (bytes ++ more)) e
-    ∙ ap (λ (x : Told). record { text = t.text ++ x.text; now = x.now }) rest
-    ∙ ap (λ (x : List ℕ). record { text = x; now = (told now more).now }) (sym (append_assoc t.text (told next bytes).text (told now more).text))
+    ∙ ap (behind t) rest
+    ∙ sym (behind_assoc t (told next bytes) (told now more))
     ∙ ap (λ (x : Told). behind x (told now more)) (sym first)
 
 pub told_pieces : (r now : Reading) (bytes more : List ℕ) → (told r bytes).now ≡ Ok now → told r (bytes ++ more) ≡ behind (told r bytes) (told now more)
@@ -133,3 +142,31 @@ stop_at {R = R} start r now bytes i byte before between after status there is so
     let bytes_are : take i bytes ++ byte ∷ drop (i + 1) bytes ≡ bytes =
     ap (λ (b : ℕ). take i bytes ++ b ∷ drop (i + 1) bytes) is ∙ ap (λ (bs : List ℕ). take i bytes ++ bs) (sym (drop_more bytes i 0 there)) ∙ take-append-drop i bytes in
     subst (λ (bs : List ℕ). Tells {R = R} (told start bs) before after now (Err status)) bytes_are both
+
+-- the world at the byte at which it stopped
+module _ {R : Type 0} (start r now : Reading) (bytes : List ℕ) (i byte : ℕ) (before between after : Option (List ℕ)) (status : Status) (there : i < length bytes) (byte_is : byte ≡ get_or bytes i 0) (so_far : SoFar start (take i bytes) before between r) (tells : Tells {R = R} (byte_told r byte) between after now (Err status)) (led : Led {R = R} (byte_told r byte).events r.world now.world (Err status)) where
+  parts_are : take i bytes ++ byte ∷ drop (i + 1) bytes ≡ bytes
+  parts_are = ap (λ (b : ℕ). take i bytes ++ b ∷ drop (i + 1) bytes) byte_is ∙ ap (λ (bs : List ℕ). take i bytes ++ bs) (sym (drop_more bytes i 0 there)) ∙ take-append-drop i bytes
+
+  pub stop_led : status ≢ WriteFault → status ≢ Memory → now.world ≡ run (told start bytes).events start.world
+  stop_led one other =
+      let stopped : told r (byte ∷ drop (i + 1) bytes) ≡ byte_told r byte = further_err (byte_told r byte) status (λ next. told next (drop (i + 1) bytes)) (tells.stopped one other) in
+      let whole : told start bytes ≡ behind (told start (take i bytes)) (byte_told r byte) = ap (told start) (sym parts_are) ∙ told_pieces start r (take i bytes) (byte ∷ drop (i + 1) bytes) so_far.on ∙ ap (behind (told start (take i bytes))) stopped in
+      led.leads (λ e. let same : status ≡ Memory = cc in other same)
+      ∙ ap (run (byte_told r byte).events) ((told_follows start (take i bytes)).leads r so_far.on)
+      ∙ sym (run_append (told start (take i bytes)).events (byte_told r byte).events start.world)
+      ∙ ap (λ (t : Told). run t.events start.world) (sym whole)
+
+  pub stop_failed : (more : List ℕ) → byte ≡ 10 → status ≡ WriteFault → FailedIn start (bytes ++ more) before after now.world
+  stop_failed more newline is = record {
+    place = record {
+      read = take i bytes;
+      rest = byte ∷ (drop (i + 1) bytes ++ more);
+      now = r;
+      bytes_are = ap (λ (bs : List ℕ). bs ++ more) (sym parts_are) ∙ append_assoc (take i bytes) (byte ∷ drop (i + 1) bytes) more;
+      ends = newline;
+      on = so_far.on;
+      front = subst (λ (k : Option (List ℕ)). Stops k after (line_told r).text) so_far.written (subst (λ (t : Told). Stops between after t.text) (newline_told r byte newline) tells.front);
+    };
+    world_is = led.leads (λ e. let wrong : WriteFault ≡ Memory = let same : status ≡ Memory = cc in sym is ∙ same in cc) ∙ ap (λ (t : Told). run t.events r.world) (newline_told r byte newline);
+  }

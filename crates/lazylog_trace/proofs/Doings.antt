@@ -6,10 +6,10 @@ use Rattle.std.proofs.lemmas.Bool.{and_parts, and_from, leb-true, le-leb}
 use Rattle.lazy_msgs.specs.declared.input.WorldEvent.{WorldEvent}
 use Rattle.lazy_msgs.specs.declared.input.WorldEvent.TheVariants.{Deliver}
 use Rattle.lazy_msgs.specs.declared.refused.EventRefused.{EventRefused}
-use Rattle.lazy_rules.specs.WorldRules.{IsWithinLimits, after, accepted, happened, refusal, messages_limit, weight_limit, sent_weight}
+use Rattle.lazy_rules.specs.WorldRules.{IsWithinLimits, after, accepted, happened, refusal, run, messages_limit, weight_limit, sent_weight}
 use Rattle.lazy_rules.specs.WorldState.{WorldState}
 use Rattle.lazylog_trace.specs.declared.handling.Outcome.TheVariants.{Through, Spent}
-use Rattle.lazylog_trace.specs.Doing.{Did, Done, led_to, deliveries, did, is_spent, is_within}
+use Rattle.lazylog_trace.specs.Doing.{Did, Done, led_to, deliveries, did, handled, is_spent, is_within}
 
 -- the limits, as a test
 within_true : (w : WorldState) → IsWithinLimits w → is_within w ≡ true
@@ -92,3 +92,12 @@ module _ (first count i : ℕ) (lt : i < count) (start w new : WorldState) (on :
 
   pub loop_stop : Did (Deliver (first + i) ∷ []) w new Spent → Did (deliveries first count) start new Spent
   loop_stop d = record { done = on ∙ deliver_stop first count i lt w new d }
+
+-- the world that events lead to is that of the run of those that happen
+handled_by : (w : WorldState) (event : WorldEvent) (events : List WorldEvent) (b : Bool) → (did (happened w event) events).world ≡ run (handled (happened w event) events) (happened w event) → (if b then led_to w true else did (happened w event) events).world ≡ run (if b then [] else event ∷ handled (happened w event) events) w
+handled_by w event events true later = refl
+handled_by w event events false later = later
+
+pub handled_run : (w : WorldState) (events : List WorldEvent) → (did w events).world ≡ run (handled w events) w
+handled_run w [] = refl
+handled_run w (event ∷ events) = handled_by w event events (is_spent w event) (handled_run (happened w event) events)

@@ -5,7 +5,10 @@ pub mod Doings
 pub mod Lengths
 pub mod NumberWords
 pub mod Writing
+pub mod Printing
+pub mod Following
 pub mod LineTells
 pub mod ByteTells
 pub mod ScriptTells
 pub mod TraceTells
+pub mod Showing

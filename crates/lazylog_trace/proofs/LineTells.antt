@@ -1,6 +1,6 @@
 -- What is told at the end of a line.
 use Rattle.std.proofs.Common.{◌≡◌, ◌≢◌, ◌⊎◌, ℕ, ◌+◌, ◌<◌, List, [], Bool, Option, None, Some, inl, inr, refl, sym, ap, ◌∙◌, subst, arith, append-nil}
-use Rattle.std.specs.Prelude.{Ok, Err, if◌then◌else◌}
+use Rattle.std.specs.Prelude.{Result, Ok, Err, if◌then◌else◌}
 use Rattle.std.specs.Io.KnownBytes.{append_known}
 use Rattle.std.proofs.lemmas.Bool.{eq-eqb, ne_eqb}
 use Rattle.io_edges.specs.Telling.{Stops}
@@ -12,7 +12,10 @@ use Rattle.lazylog_trace.specs.declared.handling.Outcome.{Outcome}
 use Rattle.lazylog_trace.specs.declared.handling.Outcome.TheVariants.{Through, Spent}
 use Rattle.lazylog_trace.specs.declared.script.Command.{Command}
 use Rattle.lazylog_trace.specs.Doing.{Did, Done, did, events_of, command_lines, led_to, is_stop}
-use Rattle.lazylog_trace.specs.Output.{Reading, Told, Tells, lines_limit, counted, said_told, command_told, line_told, long_told, stops, printed}
+use Rattle.lazy_rules.specs.WorldRules.{run}
+use Rattle.lazylog_trace.specs.Traced.{Led, Tells}
+use Rattle.lazylog_trace.proofs.Doings.{handled_run}
+use Rattle.lazylog_trace.specs.Output.{Reading, Told, lines_limit, counted, said_told, command_told, line_told, long_told, stops, printed}
 use Rattle.lazylog_trace.specs.Script.{command_of}
 
 module _ {R : Type 0} (known : Option (List ℕ)) (now : Reading) where
@@ -110,4 +113,27 @@ carried_same known text = stops_same known text
 pub carried_whole : (before after : Option (List ℕ)) (text : List ℕ) → after ≡ append_known before text → Stops before after text
 carried_whole before after text written = stops_going (goes_on text (sym (append-nil text)) written)
 
-pub ruleset carried = (carried_front, carried_same, carried_whole)
+-- the world that a done command led to
+pub did_world : (w new : WorldState) (command : Command) (outcome : Outcome) → Did (events_of command) w new outcome → new ≡ (did w (events_of command)).world
+did_world w new command outcome done = sym (ap (λ (d : Done). d.world) done.done)
+
+pub ruleset carried = (carried_front, carried_same, carried_whole, did_world)
+
+module _ (r : Reading) (now : WorldState) {R : Type 0} (outcome : Result R Status) where
+  -- nothing happened at a line that is one too many, too long or says nothing
+  pub limit_led : (t : Told) → r.lines ≡ lines_limit → now ≡ r.world → Led {R = R} (counted r t).events r.world now outcome
+  limit_led t is same = record { leads = λ e. same ∙ ap (λ (x : Told). run x.events r.world) (sym (at_limit r t is)) }
+
+  pub bad_led : r.lines < lines_limit → command_of r.line ≡ None → now ≡ r.world → Led {R = R} (line_told r).events r.world now outcome
+  bad_led lt bad same = record { leads = λ e. same ∙ ap (λ (x : Told). run x.events r.world) (sym (below_limit r (said_told r (command_of r.line)) lt ∙ ap (said_told r) bad)) }
+
+  pub long_led : r.lines < lines_limit → now ≡ r.world → Led {R = R} (long_told r).events r.world now outcome
+  long_led lt same = record { leads = λ e. same ∙ ap (λ (x : Told). run x.events r.world) (sym (below_limit r (stops (BadLine (r.lines + 1))) lt)) }
+
+  -- a command was done
+  pub done_led : (command : Command) → r.lines < lines_limit → command_of r.line ≡ Some command → (outcome ≢ Err Memory → now ≡ (did r.world (events_of command)).world) → Led {R = R} (line_told r).events r.world now outcome
+  done_led command lt says is = record {
+    leads = λ e.
+        is e ∙ handled_run r.world (events_of command)
+        ∙ ap (λ (x : Told). run x.events r.world) (sym (below_limit r (said_told r (command_of r.line)) lt ∙ ap (said_told r) says));
+  }

@@ -1,13 +1,18 @@
 -- What is told of a script that comes in pieces.
 use Rattle.std.proofs.Common.{◌≡◌, ◌≢◌, ℕ, List, [], ◌∷◌, ◌++◌, Option, None, Some, refl, sym, ap, ◌∙◌, subst, append_assoc, append-nil}
-use Rattle.std.specs.Prelude.{Result, Ok, Err}
+use Rattle.std.specs.Prelude.{OnErr, Result, Ok, Err}
 use Rattle.std.specs.Io.KnownBytes.{append_known, prepend_known, IsAtEnd}
 use Rattle.io_edges.specs.Telling.{Stops}
 use Rattle.io_edges.specs.declared.status.Status.{Status}
-use Rattle.io_edges.specs.declared.status.Status.TheVariants.{ReadFault}
-use Rattle.io_edges.proofs.TellingLemmas.{append_known-append, goes_on as goes_piece, stops_further, stops_within, stops_going, rest_of}
-use Rattle.lazylog_trace.specs.Output.{Reading, Told, Tells, Ran, byte_told, further, told, end_told, script_told}
-use Rattle.lazylog_trace.proofs.ByteTells.{SoFar, behind, none_yet, told_pieces, tells_further, further_ok, further_err}
+use Rattle.io_edges.specs.declared.status.Status.TheVariants.{ReadFault, WriteFault, Memory}
+use Rattle.io_edges.proofs.TellingLemmas.{append_known-append, goes_on as goes_piece, stops_further, stops_within, stops_going}
+use Rattle.lazy_rules.specs.WorldState.{WorldState}
+use Rattle.lazy_rules.specs.WorldRules.{run}
+use Rattle.lazylog_trace.specs.Output.{Reading, Told, behind, byte_told, line_told, further, told, end_told, script_told}
+use Rattle.lazylog_trace.specs.Traced.{FailedIn, HasBytes, Led, RanOf, Tells}
+use Rattle.log_safety.proofs.Runs.{run_append}
+use Rattle.lazylog_trace.proofs.Following.{told_follows}
+use Rattle.lazylog_trace.proofs.ByteTells.{SoFar, none_yet, told_pieces, tells_further, further_ok, further_err}
 
 -- where it stopped, it goes no further
 err_from : (t : Told) (status : Status) (bytes more : List ℕ) → ((x : Reading) → (told x bytes).now ≡ Err status → told x (bytes ++ more) ≡ told x bytes) → (n : Result Reading Status) → t.now ≡ n → (further t (λ x. told x bytes)).now ≡ Err status → further t (λ x. told x (bytes ++ more)) ≡ further t (λ x. told x bytes)
@@ -15,7 +20,7 @@ err_from t status bytes more later (Err other) e stopped = further_err t other (
 err_from t status bytes more later (Ok next) e stopped =
     let first = further_ok t next (λ x. told x bytes) e in
     let rest = later next (sym (ap (λ (x : Told). x.now) first) ∙ stopped) in
-    further_ok t next (λ x. told x (bytes ++ more)) e ∙ ap (λ (x : Told). record { text = t.text ++ x.text; now = x.now }) rest ∙ sym first
+    further_ok t next (λ x. told x (bytes ++ more)) e ∙ ap (behind t) rest ∙ sym first
 
 told_err : (r : Reading) (status : Status) (bytes more : List ℕ) → (told r bytes).now ≡ Err status → told r (bytes ++ more) ≡ told r bytes
 told_err r status [] more stopped = let wrong : Ok r ≡ Err status = stopped in cc
@@ -52,101 +57,177 @@ begins_by r bytes more (Ok now) e =
 begins : (r : Reading) (bytes more : List ℕ) → Begins (told r bytes).text (script_told r (bytes ++ more)).text
 begins r bytes more = begins_by r bytes more (told r bytes).now refl
 
--- how far a script was read
-pub record Far (start : Reading) (bytes : List ℕ) (left : Option (List ℕ)) (before after : Option (List ℕ)) (now : Reading) : Type 0 where
+-- what a source has left, where it tells it
+abbrev left_bytes : Option (List ℕ) → List ℕ
+left_bytes None = []
+left_bytes (Some rest) = rest
+
+has_left : (had left : Option (List ℕ)) (read : List ℕ) → had ≡ prepend_known read left → HasBytes had (read ++ left_bytes left)
+has_left had None read is = subst (λ (h : Option (List ℕ)). HasBytes h (read ++ [])) (sym is) tt
+has_left had (Some rest) read is = subst (λ (h : Option (List ℕ)). HasBytes h (read ++ rest)) (sym is) refl
+
+has_all : (had left : Option (List ℕ)) (read : List ℕ) → IsAtEnd left → had ≡ prepend_known read left → HasBytes had read
+has_all had None read ended is = subst (λ (h : Option (List ℕ)). HasBytes h read) (sym is) tt
+has_all had (Some rest) read ended is =
+    subst (λ (h : Option (List ℕ)). HasBytes h read) (sym is) (ap (λ (bs : List ℕ). read ++ bs) ended ∙ append-nil read)
+
+prepend_more : (read piece : List ℕ) (left : Option (List ℕ)) → prepend_known read (prepend_known piece left) ≡ prepend_known (read ++ piece) left
+prepend_more read piece None = refl
+prepend_more read piece (Some rest) = ap Some (sym (append_assoc read piece rest))
+
+prepend_none : (left : Option (List ℕ)) → left ≡ prepend_known [] left
+prepend_none None = refl
+prepend_none (Some rest) = refl
+
+-- how far a script was read, of a source that had this and has that left
+pub record Far (start : Reading) (had left : Option (List ℕ)) (before after : Option (List ℕ)) (now : Reading) : Type 0 where
   pub read : List ℕ
-  pub rest : List ℕ
-  pub bytes_are : bytes ≡ read ++ rest
-  pub left_is : left ≡ Some rest
+  pub had_is : had ≡ prepend_known read left
   pub so_far : SoFar start read before after now
 
-pub far_first : (start : Reading) (bytes : List ℕ) (left known : Option (List ℕ)) → left ≡ Some bytes → Far start bytes left known known start
-far_first start bytes left known is = record { read = []; rest = bytes; bytes_are = refl; left_is = is; so_far = none_yet start known }
+pub far_first : (start : Reading) (left known : Option (List ℕ)) → Far start left left known known start
+far_first start left known = record { read = []; had_is = prepend_none left; so_far = none_yet start known }
 
--- nothing is left at the end
-none_left : (left left_now : Option (List ℕ)) (rest : List ℕ) → left ≡ prepend_known [] left_now → IsAtEnd left_now → left ≡ Some rest → rest ≡ []
-none_left left None rest read ended is = let wrong : None ≡ Some rest = sym read ∙ is in cc
-none_left left (Some xs) rest read ended is = let same : Some xs ≡ Some rest = sym read ∙ is in let one : xs ≡ rest = cc in sym one ∙ ended
-
-module _ (start r : Reading) (bytes : List ℕ) (left left_now before between : Option (List ℕ)) (far : Far start bytes left before between r) where
+module _ (start r : Reading) (had left left_now before between : Option (List ℕ)) (far : Far start had left before between r) where
   -- the source failed
-  pub far_fault : {R : Type 0} (x : Status) → x ≡ ReadFault → Ran {R = R} start bytes before between r (Err x)
+  pub far_fault : {R : Type 0} (x : Status) → x ≡ ReadFault → RanOf {R = R} had start before between r (Err x)
   far_fault {R = R} x is =
-      let goes = begins start far.read far.rest in
+      let goes = begins start far.read (left_bytes left) in
       record {
-        on = tt;
-        whole = tt;
-        stopped = λ one two three. absurd (one is);
-        written = λ one two three. absurd (one is);
-        read = λ e. (record { read = far.read; rest = far.rest; now = r; bytes_are = far.bytes_are; on = far.so_far.on }, far.so_far.written);
-        front = stops_going (goes_piece (told start far.read).text (ap (λ (b : List ℕ). (script_told start b).text) far.bytes_are ∙ goes.is) far.so_far.written);
+        bytes = far.read ++ left_bytes left;
+        has = has_left had left far.read far.had_is;
+        ran = record {
+          on = tt;
+          whole = tt;
+          stopped = λ one two three. absurd (one is);
+          written = λ one two three. absurd (one is);
+          led = λ one two three. absurd (one is);
+          read = λ e. (record { read = far.read; rest = left_bytes left; now = r; bytes_are = refl; on = far.so_far.on }, refl, far.so_far.written);
+          failed = λ e. let wrong : ReadFault ≡ WriteFault = let same : x ≡ WriteFault = cc in sym is ∙ same in cc;
+          front = stops_going (goes_piece (told start far.read).text goes.is far.so_far.written);
+        };
       }
 
   -- a piece more was read
   module _ (piece : List ℕ) (read : left ≡ prepend_known piece left_now) (now : Reading) (after : Option (List ℕ)) where
-    pub far_more : {R : Type 0} (x : R) → Tells {R = R} (told r piece) between after now (Ok x) → Far start bytes left_now before after now
+    had_now : had ≡ prepend_known (far.read ++ piece) left_now
+    had_now = far.had_is ∙ ap (prepend_known far.read) read ∙ prepend_more far.read piece left_now
+
+    pub far_more : {R : Type 0} (x : R) → Tells {R = R} (told r piece) between after now (Ok x) → Far start had left_now before after now
     far_more {R = R} x t =
         let both = tells_further {R = R} start r now far.read piece before between after (Ok x) far.so_far t in
-        let left_is = rest_of {taken = piece} read far.left_is in
+        record { read = far.read ++ piece; had_is = had_now; so_far = record { on = both.on; written = both.whole } }
+
+    -- a line of the piece whose writing failed is one of the script
+    failed_further : (more : List ℕ) (world : WorldState) → FailedIn r (piece ++ more) between after world → FailedIn start ((far.read ++ piece) ++ more) before after world
+    failed_further more world k =
+        let pieces = told_pieces start r far.read k.place.read far.so_far.on in
+        let written : append_known between (told r k.place.read).text ≡ append_known before (told start (far.read ++ k.place.read)).text =
+        ap (λ (known : Option (List ℕ)). append_known known (told r k.place.read).text) far.so_far.written
+        ∙ append_known-append before (told start far.read).text (told r k.place.read).text
+        ∙ ap (λ (t : Told). append_known before t.text) (sym pieces) in
         record {
-          read = far.read ++ piece;
-          rest = left_is.rest;
-          bytes_are = far.bytes_are ∙ ap (λ (b : List ℕ). far.read ++ b) left_is.bytes_are ∙ sym (append_assoc far.read piece left_is.rest);
-          left_is = left_is.left_is;
-          so_far = record { on = both.on; written = both.whole };
+          place = record {
+            read = far.read ++ k.place.read;
+            rest = k.place.rest;
+            now = k.place.now;
+            bytes_are = append_assoc far.read piece more ∙ ap (λ (bs : List ℕ). far.read ++ bs) k.place.bytes_are ∙ sym (append_assoc far.read k.place.read k.place.rest);
+            ends = k.place.ends;
+            on = ap (λ (t : Told). t.now) pieces ∙ k.place.on;
+            front = subst (λ (known : Option (List ℕ)). Stops known after (line_told k.place.now).text) written k.place.front;
+          };
+          world_is = k.world_is;
         }
 
-    pub far_stop : {R : Type 0} (status : Status) → status ≢ ReadFault → Tells {R = R} (told r piece) between after now (Err status) → Ran {R = R} start bytes before after now (Err status)
-    far_stop {R = R} status other t =
+    pub far_stop : {R : Type 0} (status : Status) → status ≢ ReadFault → Tells {R = R} (told r piece) between after now (Err status)
+        → (status ≢ WriteFault → status ≢ Memory → now.world ≡ run (told r piece).events r.world)
+        → ((more : List ℕ) → ◌≡◌ {A = Result R Status} (Err status) (Err WriteFault) → FailedIn r (piece ++ more) between after now.world)
+        → RanOf {R = R} had start before after now (Err status)
+    far_stop {R = R} status other t led failed =
         let both = tells_further {R = R} start r now far.read piece before between after (Err status) far.so_far t in
-        let left_is = rest_of {taken = piece} read far.left_is in
-        let bytes_are : bytes ≡ (far.read ++ piece) ++ left_is.rest = far.bytes_are ∙ ap (λ (b : List ℕ). far.read ++ b) left_is.bytes_are ∙ sym (append_assoc far.read piece left_is.rest) in
-        let goes = begins start (far.read ++ piece) left_is.rest in
+        let rest = left_bytes left_now in
+        let goes = begins start (far.read ++ piece) rest in
         let whole = λ (stopped : (told start (far.read ++ piece)).now ≡ Err status).
-        let one : script_told start bytes ≡ further (told start (far.read ++ piece)) end_told = ap (script_told start) bytes_are ∙ ap (λ (x : Told). further x end_told) (told_err start status (far.read ++ piece) left_is.rest stopped) in
-        let two : script_told start bytes ≡ told start (far.read ++ piece) = one ∙ further_err (told start (far.read ++ piece)) status end_told stopped in
+        let one : script_told start ((far.read ++ piece) ++ rest) ≡ further (told start (far.read ++ piece)) end_told = ap (λ (x : Told). further x end_told) (told_err start status (far.read ++ piece) rest stopped) in
+        let two : script_told start ((far.read ++ piece) ++ rest) ≡ told start (far.read ++ piece) = one ∙ further_err (told start (far.read ++ piece)) status end_told stopped in
         two in
         record {
-          on = tt;
-          whole = tt;
-          stopped = λ one two three. ap (λ (x : Told). x.now) (whole (both.stopped two three)) ∙ both.stopped two three;
-          written = λ one two three. both.written two three ∙ ap (λ (x : Told). append_known before x.text) (sym (whole (both.stopped two three)));
-          read = λ e. let wrong : status ≡ ReadFault = let same : Err status ≡ Err ReadFault = e in cc in absurd (other wrong);
-          front = stops_within goes.more (ap (λ (b : List ℕ). (script_told start b).text) bytes_are ∙ goes.is) both.front;
+          bytes = (far.read ++ piece) ++ rest;
+          has = has_left had left_now (far.read ++ piece) had_now;
+          ran = record {
+            on = tt;
+            whole = tt;
+            stopped = λ one two three. ap (λ (x : Told). x.now) (whole (both.stopped two three)) ∙ both.stopped two three;
+            written = λ one two three. both.written two three ∙ ap (λ (x : Told). append_known before x.text) (sym (whole (both.stopped two three)));
+            led = λ one two three.
+                led two three
+                ∙ ap (run (told r piece).events) ((told_follows start far.read).leads r far.so_far.on)
+                ∙ sym (run_append (told start far.read).events (told r piece).events start.world)
+                ∙ ap (λ (x : Told). run x.events start.world) (sym (told_pieces start r far.read piece far.so_far.on))
+                ∙ ap (λ (x : Told). run x.events start.world) (sym (whole (both.stopped two three)));
+            read = λ e. let wrong : status ≡ ReadFault = let same : Err status ≡ Err ReadFault = e in cc in absurd (other wrong);
+            failed = λ e. failed_further rest now.world (failed rest e);
+            front = stops_within goes.more goes.is both.front;
+          };
         }
 
   -- the end was read
   module _ (read : left ≡ prepend_known [] left_now) (ended : IsAtEnd left_now) (now : Reading) (after : Option (List ℕ)) where
-    all_read : bytes ≡ far.read
-    all_read =
-        let none = none_left left left_now far.rest read ended far.left_is in
-        far.bytes_are ∙ ap (λ (b : List ℕ). far.read ++ b) none ∙ append-nil far.read
+    script_is : script_told start far.read ≡ behind (told start far.read) (end_told r)
+    script_is = further_ok (told start far.read) r end_told far.so_far.on
 
-    script_is : script_told start bytes ≡ record { text = (told start far.read).text ++ (end_told r).text; now = (end_told r).now }
-    script_is = ap (script_told start) all_read ∙ further_ok (told start far.read) r end_told far.so_far.on
-
-    text_after : after ≡ append_known between (end_told r).text → after ≡ append_known before (script_told start bytes).text
+    text_after : after ≡ append_known between (end_told r).text → after ≡ append_known before (script_told start far.read).text
     text_after written =
         written ∙ ap (λ (k : Option (List ℕ)). append_known k (end_told r).text) far.so_far.written ∙ append_known-append before (told start far.read).text (end_told r).text
         ∙ ap (λ (x : Told). append_known before x.text) (sym script_is)
 
-    end_front : Stops between after (end_told r).text → Stops before after (script_told start bytes).text
+    end_front : Stops between after (end_told r).text → Stops before after (script_told start far.read).text
     end_front front = subst (λ (x : Told). Stops before after x.text) (sym script_is) (stops_further (goes_piece (told start far.read).text refl far.so_far.written) front)
 
-    pub far_end : {R : Type 0} (outcome : Result R Status) → outcome ≢ Err ReadFault → Tells {R = R} (end_told r) between after now outcome → Ran {R = R} start bytes before after now outcome
-    far_end (Ok x) other t = record {
-      on = ap (λ (y : Told). y.now) script_is ∙ t.on;
-      whole = text_after t.whole;
-      stopped = tt;
-      written = tt;
-      read = λ e. let wrong : Ok x ≡ Err ReadFault = e in cc;
-      front = end_front t.front;
+    had_all : HasBytes had far.read
+    had_all = has_all had left_now far.read ended (far.had_is ∙ ap (prepend_known far.read) (read ∙ sym (prepend_none left_now)))
+
+    pub far_end : {R : Type 0} (outcome : Result R Status) → outcome ≢ Err ReadFault → Tells {R = R} (end_told r) between after now outcome → Led {R = R} (end_told r).events r.world now.world outcome → OnErr outcome (end_told r ≡ line_told r) → RanOf {R = R} had start before after now outcome
+    far_end (Ok x) other t led line = record {
+      bytes = far.read;
+      has = had_all;
+      ran = record {
+        on = ap (λ (y : Told). y.now) script_is ∙ t.on;
+        whole = text_after t.whole;
+        stopped = tt;
+        written = tt;
+        led = tt;
+        read = λ e. let wrong : Ok x ≡ Err ReadFault = e in cc;
+        failed = λ e. let wrong : Ok x ≡ Err WriteFault = e in cc;
+        front = end_front t.front;
+      };
     }
-    far_end (Err status) other t = record {
-      on = tt;
-      whole = tt;
-      stopped = λ one two three. ap (λ (y : Told). y.now) script_is ∙ t.stopped two three;
-      written = λ one two three. text_after (t.written two three);
-      read = λ e. absurd (other e);
-      front = end_front t.front;
+    far_end (Err status) other t led line = record {
+      bytes = far.read;
+      has = had_all;
+      ran = record {
+        on = tt;
+        whole = tt;
+        stopped = λ one two three. ap (λ (y : Told). y.now) script_is ∙ t.stopped two three;
+        written = λ one two three. text_after (t.written two three);
+        led = λ one two three.
+            led.leads (λ e. let same : status ≡ Memory = cc in three same)
+            ∙ ap (run (end_told r).events) ((told_follows start far.read).leads r far.so_far.on)
+            ∙ sym (run_append (told start far.read).events (end_told r).events start.world)
+            ∙ ap (λ (x : Told). run x.events start.world) (sym script_is);
+        read = λ e. absurd (other e);
+        failed = λ e. record {
+          place = record {
+            read = far.read;
+            rest = [];
+            now = r;
+            bytes_are = sym (append-nil far.read);
+            ends = tt;
+            on = far.so_far.on;
+            front = subst (λ (k : Option (List ℕ)). Stops k after (line_told r).text) far.so_far.written (subst (λ (x : Told). Stops between after x.text) line t.front);
+          };
+          world_is = led.leads (λ f. let wrong : Err WriteFault ≡ Err Memory = sym e ∙ f in cc) ∙ ap (λ (x : Told). run x.events r.world) line;
+        };
+        front = end_front t.front;
+      };
     }

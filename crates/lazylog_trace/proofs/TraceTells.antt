@@ -1,145 +1,213 @@
 -- What is told of a whole trace.
-use Rattle.std.proofs.Common.{◌≡◌, ◌≢◌, ◌⊎◌, ℕ, List, ◌++◌, Option, None, inl, inr, refl, sym, ap, ◌∙◌, subst}
+use Rattle.std.proofs.Common.{◌≡◌, ◌≢◌, ◌⊎◌, ℕ, List, [], ◌++◌, Option, None, Some, inl, inr, refl, sym, ap, ◌∙◌, subst}
 use Rattle.std.specs.Prelude.{Result, Ok, Err}
 use Rattle.std.specs.Io.KnownBytes.{append_known}
 use Rattle.io_edges.specs.Telling.{Stops}
 use Rattle.io_edges.specs.declared.status.Status.{Status}
 use Rattle.io_edges.specs.declared.status.Status.TheVariants.{Done, Usage, BadLine, ReadFault, WriteFault, Memory, Limit}
 use Rattle.io_edges.proofs.TellingLemmas.{append_known-append, goes_on as goes_piece, stops_further, stops_within, stops_same}
-use Rattle.lazylog_trace.specs.Output.{Reading, Ran, Closed, Traced, told, script_told, text_of, closing, closing_line, last_line, status_of}
-use Rattle.lazylog_trace.specs.Output.{stop_text}
+use Rattle.view_config.specs.Shape.{Dimensions}
+use Rattle.lazy_msgs.specs.declared.input.WorldEvent.{WorldEvent}
+use Rattle.lazy_rules.specs.WorldState.{WorldState}
+use Rattle.lazy_rules.specs.WorldRules.{run}
+use Rattle.lazy_core.specs.declared.trail.Trail.{Trail}
+use Rattle.lazy_core.specs.Filled.{IsFilled}
+use Rattle.lazylog_trace.specs.Output.{Reading, first_reading, told, line_told, script_told, closing, closing_line, last_line, status_of, stop_text, out, out_read}
+use Rattle.lazylog_trace.specs.Traced.{Closed, FailedIn, HasBytes, IsTrace, Ran, RanOf, ReadOf, Traced, TracedTo}
+use Rattle.log_safety.proofs.Runs.{run_append}
+use Rattle.lazylog_trace.proofs.Following.{told_follows, script_follows}
 
--- nothing came, and there was no memory
-pub memory_traced : (start : Reading) (bytes : List ℕ) (known : Option (List ℕ)) → Traced start bytes known known Memory
-memory_traced start bytes known = record {
-  ended = λ one two three. absurd (three refl);
-  whole = λ one two three. absurd (three refl);
-  read = λ e. let wrong : Memory ≡ ReadFault = e in cc;
-  front = inl (stops_same known (text_of (script_told start bytes)));
-}
+-- a trace of these bytes: the events that it handled, and the world that they led to
+record Course (start : Reading) (bytes : List ℕ) (before after : Option (List ℕ)) (world : WorldState) (status : Status) : Type 0 where
+  events : List WorldEvent
+  traced : Traced start bytes before after events status
+  led : status ≢ Memory → world ≡ run events start.world
 
--- want of memory behind all
-pub then_memory : (start : Reading) (bytes : List ℕ) (before after : Option (List ℕ)) (status : Status) → Traced start bytes before after status → Traced start bytes before after Memory
-then_memory start bytes before after status t = record {
-  ended = λ one two three. absurd (three refl);
-  whole = λ one two three. absurd (three refl);
-  read = λ e. let wrong : Memory ≡ ReadFault = e in cc;
-  front = t.front;
-}
+module _ (start : Reading) (bytes : List ℕ) (before : Option (List ℕ)) where
+  -- want of memory, wherever it came
+  memory_only : (after : Option (List ℕ)) (events : List WorldEvent) → Stops before after (out start bytes) ⊎ ((k : ReadOf start bytes) × Stops before after (out_read start k.read)) → Traced start bytes before after events Memory
+  memory_only after events front = record {
+    ended = λ one two three. absurd (three refl);
+    whole = λ one two three. absurd (three refl);
+    handled = λ one two three. absurd (three refl);
+    read = λ e. let wrong : Memory ≡ ReadFault = e in cc;
+    failed = λ e. let wrong : Memory ≡ WriteFault = e in cc;
+    front = front;
+  }
+
+  pub then_memory : (after : Option (List ℕ)) (events : List WorldEvent) (status : Status) → Traced start bytes before after events status → Traced start bytes before after events Memory
+  then_memory after events status t = memory_only after events t.front
 
 module _ (start : Reading) (bytes : List ℕ) (before between after : Option (List ℕ)) (now : Reading) where
   -- a text, and the last line behind it
   two_parts : (first last : List ℕ) → between ≡ append_known before first → after ≡ append_known between last → after ≡ append_known before (first ++ last)
   two_parts first last one two = two ∙ ap (λ (k : Option (List ℕ)). append_known k last) one ∙ append_known-append before first last
 
-  -- the script was read to its end
-  module _ (status : Status) (ran : Ran {R = Unit {0}} start bytes before between now (Ok (tt {0}))) (closed : Closed (last_line now.world (Ok (tt {0}))) Done between after status) where
-    text_is : text_of (script_told start bytes) ≡ (script_told start bytes).text ++ closing_line (last_line now.world (Ok (tt {0})))
-    text_is = ap (λ (n : Result Reading Status). (script_told start bytes).text ++ closing n) ran.on
+  -- all of the script was handled: it was read to its end, or to the line that stops it
+  module _ (end_is : Result Reading Status) (is : (script_told start bytes).now ≡ end_is) (written : between ≡ append_known before (script_told start bytes).text) (world : now.world ≡ run (script_told start bytes).events start.world)
+      (line : Option (List ℕ)) (line_is : closing_line line ≡ closing end_is) (given : Status) (given_is : given ≡ status_of end_is) (no_fault : given ≢ ReadFault) (status : Status) (closed : Closed line given between after status) where
+    last_is : closing_line line ≡ closing (script_told start bytes).now
+    last_is = line_is ∙ ap (λ (n : Result Reading Status). closing n) (sym is)
 
-    pub ended_traced : Traced start bytes before after status
-    ended_traced = record {
-      ended = λ one two three. elim closed.outcome [
-        | inl done ↦ done.0 ∙ sym (ap (status_of {R = Reading}) ran.on)
-        | inr other ↦ elim other [ inl e ↦ absurd (two e) | inr e ↦ absurd (three e) ]
-      ];
-      whole = λ one two three. elim closed.outcome [
-        | inl done ↦ two_parts (script_told start bytes).text (closing_line (last_line now.world (Ok (tt {0})))) ran.whole done.1 ∙ ap (append_known before) (sym text_is)
-        | inr other ↦ elim other [ inl e ↦ absurd (two e) | inr e ↦ absurd (three e) ]
-      ];
-      read = λ e. elim closed.outcome [
-        | inl done ↦ let wrong : Done ≡ ReadFault = sym done.0 ∙ e in cc
-        | inr other ↦ elim other [
-          | inl f ↦ let wrong : WriteFault ≡ ReadFault = sym f ∙ e in cc
-          | inr f ↦ let wrong : Memory ≡ ReadFault = sym f ∙ e in cc
-        ]
-      ];
-      front = inl (subst (λ (t : List ℕ). Stops before after t) (sym text_is) (stops_further (goes_piece (script_told start bytes).text refl ran.whole) closed.front));
+    whole_course : Course start bytes before after now.world status
+    whole_course = record {
+      events = (script_told start bytes).events;
+      traced = record {
+        ended = λ one two three. elim closed.outcome [
+          | inl done ↦ done.0 ∙ given_is ∙ sym (ap (status_of {R = Reading}) is)
+          | inr other ↦ elim other [ inl e ↦ absurd (two e) | inr e ↦ absurd (three e) ]
+        ];
+        whole = λ one two three. elim closed.outcome [
+          | inl done ↦ two_parts (script_told start bytes).text (closing_line line) written done.1 ∙ ap (λ (last : List ℕ). append_known before ((script_told start bytes).text ++ last)) last_is
+          | inr other ↦ elim other [ inl e ↦ absurd (two e) | inr e ↦ absurd (three e) ]
+        ];
+        handled = λ one two three. refl;
+        read = λ e. elim closed.outcome [
+          | inl done ↦ absurd (no_fault (sym done.0 ∙ e))
+          | inr other ↦ elim other [
+            | inl f ↦ let wrong : WriteFault ≡ ReadFault = sym f ∙ e in cc
+            | inr f ↦ let wrong : Memory ≡ ReadFault = sym f ∙ e in cc
+          ]
+        ];
+        failed = λ e. inr (inl (record {
+          handled = refl;
+          front = subst (λ (k : Option (List ℕ)). Stops k after (closing (script_told start bytes).now)) written (subst (λ (last : List ℕ). Stops between after last) last_is closed.front);
+        }));
+        front = inl (stops_further (goes_piece (script_told start bytes).text refl written) (subst (λ (last : List ℕ). Stops between after last) last_is closed.front));
+      };
+      led = λ e. world;
     }
 
-  -- or something stopped it
-  module _ (given status : Status) (ran : Ran {R = Unit {0}} start bytes before between now (Err given)) (closed : Closed (stop_text given) given between after status) where
-    -- a stop at a line
-    at_line : given ≢ ReadFault → given ≢ WriteFault → given ≢ Memory → Traced start bytes before after status
-    at_line one two three =
-        let now_is = ran.stopped one two three in
-        let written = ran.written one two three in
-        let text_is : text_of (script_told start bytes) ≡ (script_told start bytes).text ++ closing_line (stop_text given) = ap (λ (n : Result Reading Status). (script_told start bytes).text ++ closing n) now_is in
-        record {
-          ended = λ four five six. elim closed.outcome [
-            | inl done ↦ done.0 ∙ sym (ap (status_of {R = Reading}) now_is)
-            | inr other ↦ elim other [ inl e ↦ absurd (five e) | inr e ↦ absurd (six e) ]
-          ];
-          whole = λ four five six. elim closed.outcome [
-            | inl done ↦ two_parts (script_told start bytes).text (closing_line (stop_text given)) written done.1 ∙ ap (append_known before) (sym text_is)
-            | inr other ↦ elim other [ inl e ↦ absurd (five e) | inr e ↦ absurd (six e) ]
-          ];
-          read = λ e. elim closed.outcome [
-            | inl done ↦ absurd (one (sym done.0 ∙ e))
-            | inr other ↦ elim other [
-              | inl f ↦ let wrong : WriteFault ≡ ReadFault = sym f ∙ e in cc
-              | inr f ↦ let wrong : Memory ≡ ReadFault = sym f ∙ e in cc
-            ]
-          ];
-          front = inl (subst (λ (t : List ℕ). Stops before after t) (sym text_is) (stops_further (goes_piece (script_told start bytes).text refl written) closed.front));
-        }
+  -- the source failed
+  module _ (status : Status) (k : ReadOf start bytes) (k_now : k.now ≡ now) (written : between ≡ append_known before (told start k.read).text) (closed : Closed (stop_text ReadFault) ReadFault between after status) where
+    source_course : Course start bytes before after now.world status
+    source_course = record {
+      events = (told start k.read).events;
+      traced = record {
+        ended = λ one two three. absurd (settled one two three);
+        whole = λ one two three. absurd (settled one two three);
+        handled = λ one two three. absurd (settled one two three);
+        read = λ e. elim closed.outcome [
+          | inl done ↦ (k, refl, two_parts (told start k.read).text (closing (Err ReadFault)) written done.1)
+          | inr other ↦ elim other [
+            | inl f ↦ let wrong : WriteFault ≡ ReadFault = sym f ∙ e in cc
+            | inr f ↦ let wrong : Memory ≡ ReadFault = sym f ∙ e in cc
+          ]
+        ];
+        failed = λ e. inr (inr (k, record { handled = refl; front = subst (λ (known : Option (List ℕ)). Stops known after (closing (Err ReadFault))) written closed.front }));
+        front = inr (k, stops_further (goes_piece (told start k.read).text refl written) closed.front);
+      };
+      led = λ e. ap (λ (r : Reading). r.world) (sym k_now) ∙ (told_follows start k.read).leads k.now k.on;
+    }
+      where
+        settled : status ≢ ReadFault → status ≢ WriteFault → status ≢ Memory → ⊥
+        settled one two three = elim closed.outcome [
+          | inl done ↦ one done.0
+          | inr other ↦ elim other [ inl e ↦ two e | inr e ↦ three e ]
+        ]
 
-    -- the source failed
-    at_source : given ≡ ReadFault → Traced start bytes before after status
-    at_source is =
-        let k = ran.read (ap Err is) in
-        let line : closing_line (stop_text given) ≡ closing (Err ReadFault) = ap (λ (s : Status). closing_line (stop_text s)) is in
-        record {
-          ended = λ four five six. elim closed.outcome [
-            | inl done ↦ absurd (four (done.0 ∙ is))
-            | inr other ↦ elim other [ inl e ↦ absurd (five e) | inr e ↦ absurd (six e) ]
-          ];
-          whole = λ four five six. elim closed.outcome [
-            | inl done ↦ absurd (four (done.0 ∙ is))
-            | inr other ↦ elim other [ inl e ↦ absurd (five e) | inr e ↦ absurd (six e) ]
-          ];
-          read = λ e. elim closed.outcome [
-            | inl done ↦ (k.0, two_parts (told start k.0.read).text (closing (Err ReadFault)) k.1 (done.1 ∙ ap (append_known between) line))
-            | inr other ↦ elim other [
-              | inl f ↦ let wrong : WriteFault ≡ ReadFault = sym f ∙ e in cc
-              | inr f ↦ let wrong : Memory ≡ ReadFault = sym f ∙ e in cc
-            ]
-          ];
-          front = inr (k.0, stops_further (goes_piece (told start k.0.read).text refl k.1) (subst (λ (t : List ℕ). Stops between after t) line closed.front));
-        }
-
-    -- the sink failed, or there was no memory: there is no last line
-    at_sink : stop_text given ≡ None → given ≢ ReadFault → ((given ≡ WriteFault) ⊎ (given ≡ Memory)) → Traced start bytes before after status
-    at_sink none one why = record {
-      ended = λ four five six. elim closed.outcome [
-        | inl done ↦ elim why [ inl e ↦ absurd (five (done.0 ∙ e)) | inr e ↦ absurd (six (done.0 ∙ e)) ]
-        | inr other ↦ elim other [ inl e ↦ absurd (five e) | inr e ↦ absurd (six e) ]
-      ];
-      whole = λ four five six. elim closed.outcome [
-        | inl done ↦ elim why [ inl e ↦ absurd (five (done.0 ∙ e)) | inr e ↦ absurd (six (done.0 ∙ e)) ]
-        | inr other ↦ elim other [ inl e ↦ absurd (five e) | inr e ↦ absurd (six e) ]
-      ];
-      read = λ e. elim closed.outcome [
-        | inl done ↦ absurd (one (sym done.0 ∙ e))
-        | inr other ↦ elim other [
+  -- the write of a line failed, so that there is no last line
+  module _ (status : Status) (failed : FailedIn start bytes before between now.world) (front : Stops before between (out start bytes)) (same : after ≡ between) (why : (status ≡ WriteFault) ⊎ (status ≡ Memory)) where
+    sink_course : Course start bytes before after now.world status
+    sink_course = record {
+      events = (told start failed.place.read).events ++ (line_told failed.place.now).events;
+      traced = record {
+        ended = λ one two three. absurd (settled one two three);
+        whole = λ one two three. absurd (settled one two three);
+        handled = λ one two three. absurd (settled one two three);
+        read = λ e. elim why [
           | inl f ↦ let wrong : WriteFault ≡ ReadFault = sym f ∙ e in cc
           | inr f ↦ let wrong : Memory ≡ ReadFault = sym f ∙ e in cc
-        ]
-      ];
-      front = inl (subst (λ (k : Option (List ℕ)). Stops before k (text_of (script_told start bytes))) (sym (closed.none none)) (stops_within (closing (script_told start bytes).now) refl ran.front));
+        ];
+        failed = λ e. inl (
+          record {
+            read = failed.place.read;
+            rest = failed.place.rest;
+            now = failed.place.now;
+            bytes_are = failed.place.bytes_are;
+            ends = failed.place.ends;
+            on = failed.place.on;
+            front = subst (λ (known : Option (List ℕ)). Stops (append_known before (told start failed.place.read).text) known (line_told failed.place.now).text) (sym same) failed.place.front;
+          },
+          refl,
+        );
+        front = inl (subst (λ (known : Option (List ℕ)). Stops before known (out start bytes)) (sym same) front);
+      };
+      led = λ e.
+          failed.world_is
+          ∙ ap (run (line_told failed.place.now).events) ((told_follows start failed.place.read).leads failed.place.now failed.place.on)
+          ∙ sym (run_append (told start failed.place.read).events (line_told failed.place.now).events start.world);
     }
+      where
+        settled : status ≢ ReadFault → status ≢ WriteFault → status ≢ Memory → ⊥
+        settled one two three = elim why [ inl e ↦ two e | inr e ↦ three e ]
 
--- whatever stopped it
-pub stopped_traced : (start : Reading) (bytes : List ℕ) (before between after : Option (List ℕ)) (now : Reading) (given status : Status) → Ran {R = Unit {0}} start bytes before between now (Err given) → Closed (stop_text given) given between after status → Traced start bytes before after status
-stopped_traced start bytes before between after now ReadFault status ran closed = at_source start bytes before between after now ReadFault status ran closed refl
-stopped_traced start bytes before between after now WriteFault status ran closed = at_sink start bytes before between after now WriteFault status ran closed refl (λ e. cc) (inl refl)
-stopped_traced start bytes before between after now Memory status ran closed = at_sink start bytes before between after now Memory status ran closed refl (λ e. cc) (inr refl)
-stopped_traced start bytes before between after now (BadLine n) status ran closed = at_line start bytes before between after now (BadLine n) status ran closed (λ e. cc) (λ e. cc) (λ e. cc)
-stopped_traced start bytes before between after now (Limit n) status ran closed = at_line start bytes before between after now (Limit n) status ran closed (λ e. cc) (λ e. cc) (λ e. cc)
-stopped_traced start bytes before between after now Done status ran closed = at_line start bytes before between after now Done status ran closed (λ e. cc) (λ e. cc) (λ e. cc)
-stopped_traced start bytes before between after now Usage status ran closed = at_line start bytes before between after now Usage status ran closed (λ e. cc) (λ e. cc) (λ e. cc)
+  -- there was no memory
+  memory_course : (status : Status) → status ≡ Memory → Stops before after (out start bytes) → Course start bytes before after now.world status
+  memory_course status is front = record {
+    events = [];
+    traced = subst (λ (s : Status). Traced start bytes before after [] s) (sym is) (memory_only start bytes before after [] (inl front));
+    led = λ other. absurd (other is);
+  }
+
+  -- a line stopped it
+  at_line : (given status : Status) → given ≢ ReadFault → given ≢ WriteFault → given ≢ Memory → Ran {R = Unit {0}} start bytes before between now (Err given) → Closed (stop_text given) given between after status → Course start bytes before after now.world status
+  at_line given status one two three ran closed = whole_course (Err given) (ran.stopped one two three) (ran.written one two three) (ran.led one two three) (stop_text given) refl given refl one status closed
+
+  -- whatever stopped it
+  stopped_course : (given status : Status) → Ran {R = Unit {0}} start bytes before between now (Err given) → Closed (stop_text given) given between after status → Course start bytes before after now.world status
+  stopped_course ReadFault status ran closed = let k = ran.read refl in source_course status k.0 k.1 k.2 closed
+  stopped_course WriteFault status ran closed = let none = closed.none refl in sink_course status (ran.failed refl) (stops_within (closing (script_told start bytes).now) refl ran.front) none.0 none.1
+  stopped_course Memory status ran closed =
+      let none = closed.none refl in
+      memory_course status (elim none.1 [ inl e ↦ e | inr e ↦ e ])
+      (subst (λ (known : Option (List ℕ)). Stops before known (out start bytes)) (sym none.0) (stops_within (closing (script_told start bytes).now) refl ran.front))
+  stopped_course (BadLine n) status ran closed = at_line (BadLine n) status (λ e. cc) (λ e. cc) (λ e. cc) ran closed
+  stopped_course (Limit n) status ran closed = at_line (Limit n) status (λ e. cc) (λ e. cc) (λ e. cc) ran closed
+  stopped_course Done status ran closed = at_line Done status (λ e. cc) (λ e. cc) (λ e. cc) ran closed
+  stopped_course Usage status ran closed = at_line Usage status (λ e. cc) (λ e. cc) (λ e. cc) ran closed
+
+  both_course : (ended : Result (Unit {0}) Status) (status : Status) → Ran start bytes before between now ended → Closed (last_line now.world ended) (status_of ended) between after status → Course start bytes before after now.world status
+  both_course (Ok done) status ran closed = whole_course (Ok now) ran.on ran.whole ((script_follows start bytes).leads now ran.on) (last_line now.world (Ok done)) refl Done refl (λ e. cc) status closed
+  both_course (Err given) status ran closed = stopped_course given status ran closed
 
 -- what a script led to, and then the last line
-pub both_traced : (start : Reading) (bytes : List ℕ) (before between after : Option (List ℕ)) (now : Reading) (ended : Result (Unit {0}) Status) (status : Status) → Ran start bytes before between now ended → Closed (last_line now.world ended) (status_of ended) between after status → Traced start bytes before after status
-both_traced start bytes before between after now (Ok tt) status ran closed = ended_traced start bytes before between after now status ran closed
-both_traced start bytes before between after now (Err given) status ran closed = stopped_traced start bytes before between after now given status ran closed
+pub both_traced : (had : Option (List ℕ)) (start : Reading) (before between after : Option (List ℕ)) (now : Reading) (ended : Result (Unit {0}) Status) (status : Status) → RanOf had start before between now ended → Closed (last_line now.world ended) (status_of ended) between after status → TracedTo had start before after now.world status
+both_traced had start before between after now ended status r closed =
+    let course = both_course start r.bytes before between after now ended status r.ran closed in
+    record { bytes = r.bytes; has = r.has; events = course.events; traced = course.traced; led = course.led }
+
+-- a trace in a shape
+module _ (shape : Dimensions) (had before after : Option (List ℕ)) (trail_before trail_after : Trail) where
+  any_bytes : (h : Option (List ℕ)) → (bytes : List ℕ) × HasBytes h bytes
+  any_bytes None = ([], tt)
+  any_bytes (Some bytes) = (bytes, refl)
+
+  -- nothing came, and there was no memory
+  pub memory_trace : after ≡ before → IsTrace shape had before after trail_before trail_after Memory
+  memory_trace same =
+      let some = any_bytes had in
+      record {
+        bytes = some.0;
+        has = some.1;
+        events = [];
+        traced = memory_only (first_reading shape) some.0 before after [] (inl (subst (λ (known : Option (List ℕ)). Stops before known (out (first_reading shape) some.0)) (sym same) (stops_same before (out (first_reading shape) some.0))));
+        filled = λ other. absurd (other refl);
+      }
+
+  -- the trail was filled, or there was no memory for it
+  pub filled_trace : (world : WorldState) (given status : Status) → TracedTo had (first_reading shape) before after world given → (status ≡ given) ⊎ (status ≡ Memory) → (given ≡ Memory → status ≡ Memory) → (status ≢ Memory → IsFilled world trail_before trail_after) → IsTrace shape had before after trail_before trail_after status
+  filled_trace world given status t (inl is) memory filled = record {
+    bytes = t.bytes;
+    has = t.has;
+    events = t.events;
+    traced = subst (λ (s : Status). Traced (first_reading shape) t.bytes before after t.events s) (sym is) t.traced;
+    filled = λ other. subst (λ (w : WorldState). IsFilled w trail_before trail_after) (t.led (λ e. other (memory e))) (filled other);
+  }
+  filled_trace world given status t (inr is) memory filled = record {
+    bytes = t.bytes;
+    has = t.has;
+    events = t.events;
+    traced = subst (λ (s : Status). Traced (first_reading shape) t.bytes before after t.events s) (sym is) (then_memory (first_reading shape) t.bytes before after t.events given t.traced);
+    filled = λ other. absurd (other is);
+  }

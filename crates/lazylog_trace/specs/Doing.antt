@@ -60,6 +60,11 @@ abbrev pub did : WorldState → List WorldEvent → Done
 did w [] = led_to w false
 did w (event ∷ events) = if is_spent w event then led_to w true else did (happened w event) events
 
+-- those of a list of events that happen: all of them, or those before one that is spent
+abbrev pub handled : WorldState → List WorldEvent → List WorldEvent
+handled w [] = []
+handled w (event ∷ events) = if is_spent w event then [] else event ∷ handled (happened w event) events
+
 abbrev pub is_stop : Outcome → Bool
 is_stop Through = false
 is_stop Spent = true

@@ -4,3 +4,5 @@ pub mod Script
 pub mod Doing
 pub mod Session
 pub mod Output
+pub mod Traced
+pub mod Printed

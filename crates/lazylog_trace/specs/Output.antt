@@ -1,18 +1,17 @@
-use Rattle.std.specs.Prelude.{◌≡◌, ◌≢◌, ◌⊎◌, ℕ, ◌+◌, List, [], ◌∷◌, ◌++◌, length, flat_map, ◌==◌, nat_le, if◌then◌else◌, Option, Some, None, Result, Ok, Err, OnOk, IfErr, codes, decimal}
-use Rattle.std.specs.Io.KnownBytes.{append_known}
+use Rattle.std.specs.Prelude.{ℕ, ◌+◌, List, [], ◌∷◌, ◌++◌, length, flat_map, ◌==◌, nat_le, if◌then◌else◌, Option, Some, None, Result, Ok, Err, codes, decimal}
 use Rattle.view_config.specs.Limits.{line_limit}
 use Rattle.view_config.specs.Shape.{Dimensions}
-use Rattle.io_edges.specs.Telling.{Stops}
 use Rattle.io_edges.specs.declared.status.Status.{Status}
-use Rattle.io_edges.specs.declared.status.Status.TheVariants.{Done as DoneStatus, BadLine, Limit, ReadFault, WriteFault, Memory}
+use Rattle.io_edges.specs.declared.status.Status.TheVariants.{Done as DoneStatus, BadLine, Limit, ReadFault}
 use Rattle.lazy_rules.specs.WorldState.{WorldState, first_world}
-use Rattle.lazylog_trace.specs.Doing.{Done, did, events_of, command_lines, as_line}
+use Rattle.lazy_msgs.specs.declared.input.WorldEvent.{WorldEvent}
+use Rattle.lazylog_trace.specs.Doing.{Done, did, events_of, handled, command_lines, as_line}
 use Rattle.lazylog_trace.specs.Script.{command_of}
 use Rattle.log_texts.specs.Texts.{end_text}
 use Rattle.lazylog_trace.specs.declared.script.Command.{Command}
 
--- The output of a trace: what is printed for the bytes of a script, and how that ends, byte by byte, as a
--- stream can keep it.
+-- The output of a trace: what is printed for the bytes of a script, which events happen, and how that ends,
+-- byte by byte, as a stream can keep it.
 
 -- how many lines a script has at most
 abbrev pub lines_limit : ℕ
@@ -27,16 +26,18 @@ pub record Reading : Type 0 where
 abbrev pub first_reading : Dimensions → Reading
 first_reading shape = record { world = first_world shape; lines = 0; line = [] }
 
--- what is printed for some bytes, and where the reading is then, or why it stopped
+-- what is printed for some bytes, the events that happen meanwhile, refused ones among them, and where the
+-- reading is then, or why it stopped
 pub record Told : Type 0 where
   pub text : List ℕ
+  pub events : List WorldEvent
   pub now : Result Reading Status
 
 abbrev pub goes_on : Reading → Told
-goes_on r = record { text = []; now = Ok r }
+goes_on r = record { text = []; events = []; now = Ok r }
 
 abbrev pub stops : Status → Told
-stops status = record { text = []; now = Err status }
+stops status = record { text = []; events = []; now = Err status }
 
 -- lines behind each other
 abbrev pub printed : List (List ℕ) → List ℕ
@@ -46,6 +47,7 @@ printed lines = flat_map (λ line. line) lines
 abbrev pub command_told : Reading → Command → Done → Told
 command_told r command done = record {
   text = printed (command_lines r.world command done.world);
+  events = handled r.world (events_of command);
   now = if done.spent then Err (Limit (r.lines + 1)) else Ok (record { world = done.world; lines = r.lines + 1; line = [] });
 }
 
@@ -72,13 +74,17 @@ byte_told r byte =
     else (if nat_le (line_limit r.world.shape.edition) (length r.line) then long_told r
     else goes_on (record r { line = r.line ++ byte ∷ [] }))
 
+-- one part, and the next one behind it
+abbrev pub behind : Told → Told → Told
+behind first next = record { text = first.text ++ next.text; events = first.events ++ next.events; now = next.now }
+
 -- one part, and then the part that goes on from where the first one led
-abbrev pub further_from : List ℕ → Result Reading Status → (Reading → Told) → Told
-further_from text (Err status) more = record { text = text; now = Err status }
-further_from text (Ok r) more = record { text = text ++ (more r).text; now = (more r).now }
+abbrev pub further_from : Told → Result Reading Status → (Reading → Told) → Told
+further_from told (Err status) more = told
+further_from told (Ok r) more = behind told (more r)
 
 abbrev pub further : Told → (Reading → Told) → Told
-further told more = further_from told.text told.now more
+further told more = further_from told told.now more
 
 -- these bytes were read
 abbrev pub told : Reading → List ℕ → Told
@@ -109,15 +115,6 @@ abbrev pub closing : Result Reading Status → List ℕ
 closing (Ok r) = closing_line (last_line r.world (Ok tt))
 closing (Err status) = closing_line (stop_text status)
 
--- what was printed and is written, and where the reading is, after a call that had this outcome: all of it
--- where it went on or stopped; and a front of it, whatever happened
-pub record Tells {R : Type 0} (t : Told) (before after : Option (List ℕ)) (now : Reading) (outcome : Result R Status) : Type 0 where
-  pub on : OnOk outcome (t.now ≡ Ok now)
-  pub whole : OnOk outcome (after ≡ append_known before t.text)
-  pub stopped : IfErr outcome (λ status. status ≢ WriteFault → status ≢ Memory → t.now ≡ Err status)
-  pub written : IfErr outcome (λ status. status ≢ WriteFault → status ≢ Memory → after ≡ append_known before t.text)
-  pub front : Stops before after t.text
-
 -- a whole script was read
 abbrev pub script_told : Reading → List ℕ → Told
 script_told r bytes = further (told r bytes) end_told
@@ -130,45 +127,13 @@ abbrev pub status_of : {R : Type 0} → Result R Status → Status
 status_of (Ok r) = DoneStatus
 status_of (Err status) = status
 
-abbrev pub out : Dimensions → List ℕ → List ℕ
-out shape bytes = text_of (script_told (first_reading shape) bytes)
+-- the whole output: what a script prints, and what its trace ends with
+abbrev pub out : Reading → List ℕ → List ℕ
+out start bytes = text_of (script_told start bytes)
 
-abbrev pub end_of : Dimensions → List ℕ → Status
-end_of shape bytes = status_of (script_told (first_reading shape) bytes).now
+abbrev pub end_of : Reading → List ℕ → Status
+end_of start bytes = status_of (script_told start bytes).now
 
 -- the text of the lines that were read before the source failed
-abbrev pub out_read : Dimensions → List ℕ → List ℕ
-out_read shape bytes = (told (first_reading shape) bytes).text ++ closing (Err ReadFault)
-
--- some bytes of the script were read before the source failed, and no line among them stopped the trace
-pub record ReadOf (start : Reading) (bytes : List ℕ) : Type 0 where
-  pub read : List ℕ
-  pub rest : List ℕ
-  pub now : Reading
-  pub bytes_are : bytes ≡ read ++ rest
-  pub on : (told start read).now ≡ Ok now
-
--- what a script that has these bytes led to: it was read to its end, or to the line that stops it; or the
--- source failed on the way; or the sink did, or there was no memory
-pub record Ran {R : Type 0} (start : Reading) (bytes : List ℕ) (before after : Option (List ℕ)) (now : Reading) (outcome : Result R Status) : Type 0 where
-  pub on : OnOk outcome ((script_told start bytes).now ≡ Ok now)
-  pub whole : OnOk outcome (after ≡ append_known before (script_told start bytes).text)
-  pub stopped : IfErr outcome (λ status. status ≢ ReadFault → status ≢ WriteFault → status ≢ Memory → (script_told start bytes).now ≡ Err status)
-  pub written : IfErr outcome (λ status. status ≢ ReadFault → status ≢ WriteFault → status ≢ Memory → after ≡ append_known before (script_told start bytes).text)
-  pub read : outcome ≡ Err ReadFault → (k : ReadOf start bytes) × (after ≡ append_known before (told start k.read).text)
-  pub front : Stops before after (script_told start bytes).text
-
--- the last line was written, and the trace ends with this; or the sink failed, or there was no memory
-pub record Closed (line : Option (List ℕ)) (given : Status) (before after : Option (List ℕ)) (status : Status) : Type 0 where
-  pub outcome : ((status ≡ given) × (after ≡ append_known before (closing_line line))) ⊎ ((status ≡ WriteFault) ⊎ (status ≡ Memory))
-  pub front : Stops before after (closing_line line)
-  pub none : line ≡ None → after ≡ before
-
--- What a trace of a script that has these bytes printed, and what it ends with: the text of the script
--- and its end; where the source failed, the text of the lines that were read; and a front of it, whatever
--- happened.
-pub record Traced (start : Reading) (bytes : List ℕ) (before after : Option (List ℕ)) (status : Status) : Type 0 where
-  pub ended : status ≢ ReadFault → status ≢ WriteFault → status ≢ Memory → status ≡ status_of (script_told start bytes).now
-  pub whole : status ≢ ReadFault → status ≢ WriteFault → status ≢ Memory → after ≡ append_known before (text_of (script_told start bytes))
-  pub read : status ≡ ReadFault → (k : ReadOf start bytes) × (after ≡ append_known before ((told start k.read).text ++ closing (Err ReadFault)))
-  pub front : Stops before after (text_of (script_told start bytes)) ⊎ ((k : ReadOf start bytes) × Stops before after ((told start k.read).text ++ closing (Err ReadFault)))
+abbrev pub out_read : Reading → List ℕ → List ℕ
+out_read start bytes = (told start bytes).text ++ closing (Err ReadFault)

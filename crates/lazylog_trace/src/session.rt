@@ -1,11 +1,13 @@
 //! A script on its way: the world so far, and the line that isn't read to its end.
 
-ghost use Rattle.std.specs.Prelude.{◌≡◌, [], ◌<◌, ◌+◌, ◌^◌, ◌≤◌, ◌⊎◌, ℕ, List, Option, length, Err, IsErr, IfOk, OnOk, OnErr, IfErr};
+ghost use Rattle.std.specs.Prelude.{◌≡◌, ◌≢◌, [], ◌++◌, ◌<◌, ◌+◌, ◌^◌, ◌≤◌, ◌⊎◌, ℕ, List, Option, length, Err, IsErr, IfOk, OnOk, OnErr, IfErr};
 ghost use Rattle.view_config.specs.declared.edition.Mode.TheVariants.{M};
 ghost use Rattle.io_edges.specs.declared.status.Status.TheVariants.{Limit, WriteFault, Memory};
 ghost use Rattle.std.specs.Io.KnownBytes.{append_known};
 ghost use Rattle.io_edges.specs.Telling.{Stops as IsFrontOf};
-ghost use Rattle.lazylog_trace.specs.Output.{lines_limit, printed, line_told, long_told, byte_told, told, end_told, Tells};
+ghost use Rattle.lazy_rules.specs.WorldRules.{run};
+ghost use Rattle.lazylog_trace.specs.Output.{lines_limit, printed, line_told, long_told, byte_told, told, end_told};
+ghost use Rattle.lazylog_trace.specs.Traced.{FailedIn, Led, Tells};
 ghost use Rattle.lazylog_trace.specs.Doing.{Did, IsInForm, command_lines, did, events_of};
 ghost use Rattle.lazylog_trace.specs.Session.{IsUnderWay, bytes_left, reading_of, Stopped};
 
@@ -68,6 +70,7 @@ fn carry_out<K: Sink>(
     ensures did { IfOk result (Did (events_of command) world.old world.new) }
     ensures whole { OnOk result (K.written sink.new ≡ append_known (K.written sink.old) (printed (command_lines world.old command world.new))) }
     ensures front { IsFrontOf (K.written sink.old) (K.written sink.new) (printed (command_lines world.old command (did world.old (events_of command)).world)) }
+    ensures failed { result ≡ Err WriteFault → world.new ≡ (did world.old (events_of command)).world }
     ensures only { IfErr result (λ status. (status ≡ WriteFault) ⊎ (status ≡ Memory)) }
     ensures counted { world.new.events ≤ world.old.events + 128 }
     ensures shaped { world.new.shape ≡ world.old.shape }
@@ -122,6 +125,7 @@ impl Session {
     fn refuse_line(&mut self) -> Result<(), Status>
         requires { self.old.lines ≤ lines_limit }
         ensures tells { (known : Option (List ℕ)) → Tells (long_told (reading_of self.old)) known known (reading_of self.new) result }
+        ensures led { Led (long_told (reading_of self.old)).events self.old.world self.new.world result }
         ensures stops { IsErr result }
         ensures stopped { Stopped 0 0 result }
     {
@@ -135,6 +139,7 @@ impl Session {
         ensures kept { OnOk result (IsUnderWay self.new) }
         ensures nearer { OnOk result (bytes_left self.new < bytes_left self.old) }
         ensures tells { Tells (line_told (reading_of self.old)) (K.written sink.old) (K.written sink.new) (reading_of self.new) result }
+        ensures led { Led (line_told (reading_of self.old)).events self.old.world self.new.world result }
         ensures stopped { Stopped (K.faults sink.old) (K.faults sink.new) result }
     {
         let number = self.count_line()?;
@@ -158,6 +163,8 @@ impl Session {
         ensures kept { OnOk result (IsUnderWay self.new) }
         ensures nearer { OnOk result (bytes_left self.new < bytes_left self.old) }
         ensures tells { Tells (byte_told (reading_of self.old) byte) (K.written sink.old) (K.written sink.new) (reading_of self.new) result }
+        ensures led { Led (byte_told (reading_of self.old) byte).events self.old.world self.new.world result }
+        ensures newline { result ≡ Err WriteFault → byte ≡ 10 }
         ensures stopped { Stopped (K.faults sink.old) (K.faults sink.new) result }
     {
         if byte == b'\n' {
@@ -178,6 +185,8 @@ impl Session {
         ensures kept { OnOk result (IsUnderWay self.new) }
         ensures nearer { OnOk result (bytes_left self.new + length bytes.now ≤ bytes_left self.old) }
         ensures tells { Tells (told (reading_of self.old) bytes.now) (K.written sink.old) (K.written sink.new) (reading_of self.new) result }
+        ensures led { IfErr result (λ status. status ≢ WriteFault → status ≢ Memory → self.new.world ≡ run (told (reading_of self.old) bytes.now).events self.old.world) }
+        ensures failed { (more : List ℕ) → result ≡ Err WriteFault → FailedIn (reading_of self.old) (bytes.now ++ more) (K.written sink.old) (K.written sink.new) self.new.world }
         ensures stopped { Stopped (K.faults sink.old) (K.faults sink.new) result }
     {
         for byte in bytes {
@@ -193,6 +202,8 @@ impl Session {
     pub fn take_end<K: Sink>(&mut self, alloc: Global, sink: &mut K) -> Result<(), Status>
         requires { IsUnderWay self.old }
         ensures tells { Tells (end_told (reading_of self.old)) (K.written sink.old) (K.written sink.new) (reading_of self.new) result }
+        ensures led { Led (end_told (reading_of self.old)).events self.old.world self.new.world result }
+        ensures line { OnErr result (end_told (reading_of self.old) ≡ line_told (reading_of self.old)) }
         ensures stopped { Stopped (K.faults sink.old) (K.faults sink.new) result }
     {
         if self.line.len() == 0 {

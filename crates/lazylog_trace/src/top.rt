@@ -1,10 +1,13 @@
 //! The whole program, over any source and sink.
 
-ghost use Rattle.std.specs.Prelude.{◌≡◌, ◌≢◌, ◌≤◌, ◌⊎◌, ℕ, List, Some, None, IfOk, IfErr, OnOk, Err, codes};
+ghost use Rattle.std.specs.Prelude.{◌≡◌, ◌≢◌, ◌≤◌, ◌⊎◌, None, IfOk, IsOk, IfErr, OnOk, Err, codes};
 ghost use Rattle.std.specs.Io.KnownBytes.{append_known};
 ghost use Rattle.io_edges.specs.Telling.{Stops as IsFrontOf};
 ghost use Rattle.lazylog_trace.specs.Doing.{as_line};
-ghost use Rattle.lazylog_trace.specs.Output.{Closed, Ran, Traced, closing_line, first_reading, out, end_of, out_read, last_line, status_of};
+ghost use Rattle.lazy_core.specs.Filled.{IsFilled};
+ghost use Rattle.lazylog_trace.specs.Output.{closing_line, last_line, status_of};
+ghost use Rattle.lazylog_trace.specs.Printed.{Shows};
+ghost use Rattle.lazylog_trace.specs.Traced.{Closed, IsTrace, RanOf, TracedTo};
 ghost use Rattle.view_config.specs.declared.edition.Mode.TheVariants.{M};
 ghost use Rattle.io_edges.specs.Faults.{Rose};
 ghost use Rattle.io_edges.specs.declared.status.Status.TheVariants.{Usage, ReadFault, WriteFault, Memory};
@@ -18,7 +21,7 @@ use crate::words::read_words;
 use io_edges::{Sink, Source, Status};
 use lazy_core::{Trail, World};
 use plain_lists::Sequence;
-use rec_id::{Event, EventList, Text, TextList};
+use rec_id::{Text, TextList};
 use std::alloc::{AllocError, Global};
 use view_config::Shape;
 
@@ -38,7 +41,7 @@ fn run_script<S: Source, K: Sink>(
     ensures write_fault { result ≡ Err WriteFault → Rose (K.faults sink.old) (K.faults sink.new) }
     ensures grows { K.faults sink.old ≤ K.faults sink.new }
     ensures source_grows { S.faults source.old ≤ S.faults source.new }
-    ensures ran { (bytes : List ℕ) → S.left source.old ≡ Some bytes → Ran (reading_of session.old) bytes (K.written sink.old) (K.written sink.new) (reading_of session.new) result }
+    ensures ran { RanOf (S.left source.old) (reading_of session.old) (K.written sink.old) (K.written sink.new) (reading_of session.new) result }
 {
     let mut piece = [0u8; PIECE];
     loop {
@@ -87,7 +90,7 @@ fn last_line(
 fn write_last<K: Sink>(sink: &mut K, line: Option<Text>) -> Result<(), Status>
     ensures whole { OnOk result (K.written sink.new ≡ append_known (K.written sink.old) (closing_line line)) }
     ensures front { IsFrontOf (K.written sink.old) (K.written sink.new) (closing_line line) }
-    ensures none { line ≡ None → K.written sink.new ≡ K.written sink.old }
+    ensures none { line ≡ None → (K.written sink.new ≡ K.written sink.old) × IsOk result }
     ensures only { IfErr result (λ status. (status ≡ WriteFault) ⊎ (status ≡ Memory)) }
     ensures stopped { Stopped (K.faults sink.old) (K.faults sink.new) result }
 {
@@ -118,16 +121,6 @@ fn close<K: Sink>(alloc: Global, world: &World, ended: Result<(), Status>, sink:
     }
 }
 
-fn copy_events(alloc: Global, events: &[Event]) -> Result<EventList, AllocError>
-    ensures { IfOk result (λ made. made ≡ events.now) }
-{
-    let mut made = Sequence::new(alloc);
-    for event in events {
-        made.push(event.copy()?)?;
-    }
-    Ok(made)
-}
-
 /// Runs the script to what ends it, and writes the last line.
 fn run_and_close<S: Source, K: Sink>(
     alloc: Global,
@@ -139,10 +132,26 @@ fn run_and_close<S: Source, K: Sink>(
     ensures no_usage { result ≢ Usage }
     ensures read_fault { result ≡ ReadFault → Rose (S.faults source.old) (S.faults source.new) }
     ensures write_fault { result ≡ WriteFault → Rose (K.faults sink.old) (K.faults sink.new) }
-    ensures traced { (bytes : List ℕ) → S.left source.old ≡ Some bytes → Traced (reading_of session.old) bytes (K.written sink.old) (K.written sink.new) result }
+    ensures traced { TracedTo (S.left source.old) (reading_of session.old) (K.written sink.old) (K.written sink.new) session.new.world result }
 {
     let ended = run_script(alloc, session, source, sink);
     close(alloc, session.world(), ended, sink)
+}
+
+/// Fills in the trail, unless there was no memory for the trace or is none for the trail.
+fn fill_trail(alloc: Global, world: &World, status: Status, trail: &mut Trail) -> Status
+    ensures status { (result ≡ status) ⊎ (result ≡ Memory) }
+    ensures memory { status ≡ Memory → result ≡ Memory }
+    ensures filled { result ≢ Memory → IsFilled world.now trail.old trail.new }
+    ensures unfilled { result ≡ Memory → trail.new ≡ trail.old }
+{
+    if status == Status::Memory {
+        return Status::Memory;
+    }
+    match trail.fill(alloc, world) {
+        Ok(()) => status,
+        Err(AllocError) => Status::Memory,
+    }
 }
 
 fn trace<S: Source, K: Sink>(
@@ -156,20 +165,16 @@ fn trace<S: Source, K: Sink>(
     ensures no_usage { result ≢ Usage }
     ensures read_fault { result ≡ ReadFault → Rose (S.faults source.old) (S.faults source.new) }
     ensures write_fault { result ≡ WriteFault → Rose (K.faults sink.old) (K.faults sink.new) }
-    ensures traced { (bytes : List ℕ) → S.left source.old ≡ Some bytes → Traced (first_reading shape.now) bytes (K.written sink.old) (K.written sink.new) result }
+    ensures traced { IsTrace shape.now (S.left source.old) (K.written sink.old) (K.written sink.new) trail.old trail.new result }
+    ensures shows { result ≢ Memory → Shows (K.written sink.old) (K.written sink.new) trail.new.history result }
+    ensures unfilled { result ≡ Memory → trail.new ≡ trail.old }
 {
     let Ok(world) = World::new(alloc, shape) else {
         return Status::Memory;
     };
     let mut session = Session::new(alloc, world);
     let status = run_and_close(alloc, &mut session, source, sink);
-    match copy_events(alloc, session.world().history()) {
-        Ok(history) => {
-            trail.history = history;
-            status
-        }
-        Err(AllocError) => Status::Memory,
-    }
+    fill_trail(alloc, session.world(), status, trail)
 }
 
 /// Traces the script that `source` has, as the words say, and writes what happens to `sink`.
@@ -178,6 +183,9 @@ fn trace<S: Source, K: Sink>(
 /// `specs/Output.antt`, which read the script byte by byte. `Usage` is answered for words that ask for
 /// no trace, `BadLine(n)` where line n is the first that is outside the grammar or too long, `Limit(n)`
 /// where line n is one too many, or an event of it would send more than a world may.
+///
+/// The trail is filled whatever the trace ended with, but for faulty words and want of memory: it has the
+/// history of the events that were handled, and the lines of the holders.
 pub fn trace_top<S: Source, K: Sink>(
     alloc: Global,
     words: &TextList,
@@ -191,10 +199,17 @@ pub fn trace_top<S: Source, K: Sink>(
     ensures unread { ¬ IsTraceWords words.now → source.new ≡ source.old }
     ensures usage_text { result ≡ Usage → K.written sink.new ≡ append_known (K.written sink.old) (as_line (codes "usage")) }
 
-    // Where the words ask for a shape and the source tells its bytes: a trace of them ends as the script
-    // says, and what it says is written; where the source failed, the text of the lines that were read;
-    // and whatever happened, a front of that.
-    ensures traced { (shape : Dimensions) → AskFor words.now shape → (bytes : List ℕ) → S.left source.old ≡ Some bytes → Traced (first_reading shape) bytes (K.written sink.old) (K.written sink.new) result }
+    // Where the words ask for a shape: the trace is that of the bytes that the source had. It ends as they
+    // say, and what they say is written; the trail has the history of the run of the events that were
+    // handled, and the line of each holder whose line isn't lost, which is lawful for that history.
+    ensures traced { (shape : Dimensions) → AskFor words.now shape → IsTrace shape (S.left source.old) (K.written sink.old) (K.written sink.new) trail.old trail.new result }
+
+    // What was printed is the history in the trail: its events, each once and in order.
+    ensures shows { IsTraceWords words.now → result ≢ Memory → Shows (K.written sink.old) (K.written sink.new) trail.new.history result }
+
+    // Faulty words and want of memory leave the trail as it was.
+    ensures faulty_trail { ¬ IsTraceWords words.now → trail.new ≡ trail.old }
+    ensures memory_trail { result ≡ Memory → trail.new ≡ trail.old }
 
     // A fault is answered only where one was counted in this call.
     ensures read_fault { result ≡ ReadFault → Rose (S.faults source.old) (S.faults source.new) }
@@ -301,6 +316,49 @@ mod tests {
                 writes,
                 (status, written),
             )?;
+        }
+        Ok(())
+    }
+
+    /// Traces the script with these words, and compares how many events and lines of holders the trail
+    /// has, and how many entries the first of these lines.
+    fn leaves(
+        rt: &impl Abort,
+        alloc: Global,
+        words: &[u8],
+        reads: &[u64],
+        writes: &[u64],
+        want: (usize, usize, usize),
+    ) -> Result<(), Fail> {
+        let words = words_of(alloc, words)?;
+        let mut source = MemSource::new(alloc, SCRIPT, reads)?;
+        let mut sink = MemSink::new(alloc, writes)?;
+        let mut trail = Trail::new(alloc);
+        trace_top(alloc, &words, &mut source, &mut sink, &mut trail);
+        assert_eq!(rt; trail.history.len(), want.0);
+        assert_eq!(rt; trail.lines.len(), want.1);
+        let entries = match trail.lines.as_slice().first() {
+            Some(held) => held.line.len(),
+            None => 0,
+        };
+        assert_eq!(rt; entries, want.2);
+        Ok(())
+    }
+
+    #[test]
+    fn trails_are_left(rt: HostRuntime) -> Result<(), Fail> {
+        let words = b"trace m 3 0 1 1 1".as_slice();
+        let none = [].as_slice();
+        for (words, reads, writes, want) in [
+            (words, none, none, (2, 3, 1)),
+            // The append is handled, though its line isn't written.
+            (words, none, [1].as_slice(), (1, 3, 0)),
+            (words, none, [3].as_slice(), (2, 3, 1)),
+            (words, [1].as_slice(), none, (0, 3, 0)),
+            (words, [2].as_slice(), none, (2, 3, 1)),
+            (b"trace m 3 0 1 1".as_slice(), none, none, (0, 0, 0)),
+        ] {
+            leaves(&rt, rt.alloc(), words, reads, writes, want)?;
         }
         Ok(())
     }

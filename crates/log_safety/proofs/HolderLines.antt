@@ -1,7 +1,7 @@
 -- The line of each holder is lawful.
 use Rattle.lazy_rules.specs.Rows.{has_node}
 use Rattle.std.specs.Option.{is_none}
-use Rattle.std.proofs.Common.{◌≡◌, ℕ, ◌<◌, List, [], ◌∷◌, ◌++◌, map, take, get_or, Option, Some, None, refl, sym, ap, ◌∙◌, subst, arith, true, false, Bool, zero, suc, not, ◌≤◌}
+use Rattle.std.proofs.Common.{◌≡◌, ℕ, ◌<◌, List, [], ◌∷◌, ◌++◌, map, take, get_or, Option, Some, None, refl, sym, ap, ◌∙◌, subst, arith, true, false, zero, suc, not, ◌≤◌}
 use Rattle.std.specs.Prelude.{◌==◌, if◌then◌else◌, slice_get, Ok}
 use Rattle.std.specs.List.{range_with_len, position}
 use Rattle.std.proofs.lemmas.Option.{get_or_from_slice_get}

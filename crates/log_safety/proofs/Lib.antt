@@ -13,5 +13,6 @@ pub mod Nodes
 pub mod Worlds
 pub mod Beginning
 pub mod Runs
+pub mod Counts
 pub mod Lawfulness
 pub mod HolderLines

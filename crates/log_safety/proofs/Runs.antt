@@ -1,5 +1,5 @@
 -- Every list of built events keeps what holds.
-use Rattle.std.proofs.Common.{◌≡◌, ℕ, ◌<◌, List, [], ◌∷◌, length, get_or, Bool, true, false, not, Option, Some, None, refl, sym, ap, ◌∙◌, subst, arith}
+use Rattle.std.proofs.Common.{◌≡◌, ℕ, ◌<◌, List, [], ◌∷◌, ◌++◌, length, get_or, Bool, true, false, not, Option, Some, None, refl, sym, ap, ◌∙◌, subst, arith}
 use Rattle.std.specs.Prelude.{◌==◌, ◌-◌, if◌then◌else◌, slice_get}
 use Rattle.std.proofs.lemmas.Bool.{ltb-true}
 use Rattle.std.proofs.lemmas.Option.{get_or_from_slice_get, slice_get_within}
@@ -47,7 +47,7 @@ let_in : (shape : Dimensions) (from : ℕ) (msg : Msg) → is_turned_away shape 
 let_in shape from msg h = door_open (has_due_sender (node_of shape from) msg) (has_due_items msg) (names_clients shape msg) (carries_window shape msg) (carries_config shape msg) h
 
 -- a message that was sent, by its number
-numbered_said : (P : Envelope → Type 0) (sent : List Envelope) → Each P sent → (k : ℕ) (e : Envelope) → envelope_at sent k ≡ Some e → P e
+pub numbered_said : (P : Envelope → Type 0) (sent : List Envelope) → Each P sent → (k : ℕ) (e : Envelope) → envelope_at sent k ≡ Some e → P e
 numbered_said P sent h k e at = by (k == 0) at
   where
     by : (b : Bool) → (if b then None else slice_get sent (k - 1)) ≡ Some e → P e
@@ -157,6 +157,11 @@ module _ (shape : Dimensions) (formed : IsShape shape) (g : Ghost) (w : WorldSta
   event_kept (Post c bytes) covered = post_kept covered c bytes
   event_kept (Deliver k) covered = deliver_kept k
   event_kept _ covered = absurd covered
+
+-- a run in two parts
+pub run_append : (first more : List WorldEvent) (w : WorldState) → run (first ++ more) w ≡ run more (run first w)
+run_append [] more w = refl
+run_append (event ∷ first) more w = run_append first more (happened w event)
 
 pub run_kept : (shape : Dimensions) → IsShape shape → (g : Ghost) (events : List WorldEvent) (w : WorldState) → Each (IsBuilt shape) events → Holds shape g w → Holds shape g (run events w)
 run_kept shape formed g [] w covered holds = holds

@@ -1,4 +1,4 @@
-use Rattle.std.specs.Prelude.{ℕ, ◌≡◌}
+use Rattle.std.specs.Prelude.{◌≡◌}
 use Rattle.view_config.specs.Shape.{Dimensions}
 use Rattle.view_config.specs.declared.edition.Mode.TheVariants.{M}
 use Rattle.lazy_msgs.specs.declared.input.WorldEvent.{WorldEvent}

@@ -7,27 +7,27 @@ use Rattle.lazylog_trace.proofs.ScriptTells.{far_fault, far_more, far_stop, far_
 use Rattle.lazylog_trace.proofs.top.run_script.Goals as goal
 
 pub returns-in_default-clause-ran : goal.returns-in_default-clause-ran
-returns-in_default-clause-ran g c = λ bytes is.
-    far_fault (reading_of c.args.session.now) (reading_of c.loop-count.session) bytes (g.S.Source.left c.loop-count.source) (g.S.Source.left c.loop-count.source) (g.K.Sink.written c.args.sink.now) (g.K.Sink.written c.loop-count.sink) (c.loop-count.invariant.far bytes is) ReadFault refl
+returns-in_default-clause-ran g c =
+    far_fault (reading_of c.args.session.now) (reading_of c.loop-count.session) (g.S.Source.left c.args.source.now) (g.S.Source.left c.loop-count.source) (g.S.Source.left c.loop-count.source) (g.K.Sink.written c.args.sink.now) (g.K.Sink.written c.loop-count.sink) c.loop-count.invariant.far ReadFault refl
 
 pub returns-then-count-eq0-clause-ran : goal.returns-then-count-eq0-clause-ran
-returns-then-count-eq0-clause-ran g c = λ bytes is.
-    far_end (reading_of c.args.session.now) (reading_of c.loop-count.session) bytes (g.S.Source.left c.loop-count.source) (g.S.Source.left c.read.new.self) (g.K.Sink.written c.args.sink.now) (g.K.Sink.written c.loop-count.sink) (c.loop-count.invariant.far bytes is)
+returns-then-count-eq0-clause-ran g c =
+    far_end (reading_of c.args.session.now) (reading_of c.loop-count.session) (g.S.Source.left c.args.source.now) (g.S.Source.left c.loop-count.source) (g.S.Source.left c.read.new.self) (g.K.Sink.written c.args.sink.now) (g.K.Sink.written c.loop-count.sink) c.loop-count.invariant.far
     (c.in-Ok.ensures.bytes ∙ ap (λ (n : ℕ). prepend_known (take n c.read.new.buf) (g.S.Source.left c.read.new.self)) c.if-count-eq0.true)
-    (c.in-Ok.ensures.end c.if-count-eq0.true (let kept = c.read.auto.buf in let piece = c.loop-count.invariant.piece in omega arith)) _ _ c.take_end.result c.take_end.ensures.stopped.no_read_fault c.take_end.ensures.tells
+    (c.in-Ok.ensures.end c.if-count-eq0.true (let kept = c.read.auto.buf in let piece = c.loop-count.invariant.piece in omega arith)) _ _ c.take_end.result c.take_end.ensures.stopped.no_read_fault c.take_end.ensures.tells c.take_end.ensures.led c.take_end.ensures.line
 
 pub returns-in-Err-clause-ran : goal.returns-in-Err-clause-ran
-returns-in-Err-clause-ran g c = λ bytes is.
-    far_stop (reading_of c.args.session.now) (reading_of c.loop-count.session) bytes (g.S.Source.left c.loop-count.source) (g.S.Source.left c.read.new.self) (g.K.Sink.written c.args.sink.now) (g.K.Sink.written c.loop-count.sink) (c.loop-count.invariant.far bytes is)
-    (take c.in-Ok.count c.read.new.buf) c.in-Ok.ensures.bytes _ _ c.in-Err.status (λ e. c.in-Err.ensures.stopped.no_read_fault (ap Err e)) c.in-Err.ensures.tells
+returns-in-Err-clause-ran g c =
+    far_stop (reading_of c.args.session.now) (reading_of c.loop-count.session) (g.S.Source.left c.args.source.now) (g.S.Source.left c.loop-count.source) (g.S.Source.left c.read.new.self) (g.K.Sink.written c.args.sink.now) (g.K.Sink.written c.loop-count.sink) c.loop-count.invariant.far
+    (take c.in-Ok.count c.read.new.buf) c.in-Ok.ensures.bytes _ _ c.in-Err.status (λ e. c.in-Err.ensures.stopped.no_read_fault (ap Err e)) c.in-Err.ensures.tells c.in-Err.ensures.led c.in-Err.ensures.failed
 
 pub loop-count-preserved : goal.loop-count-preserved
 loop-count-preserved g c =
     let so_far = c.loop-count.invariant in
     let now = c.in-Ok-take.ensures in
     record {
-      far = λ bytes is.
-          far_more (reading_of c.args.session.now) (reading_of c.loop-count.session) bytes (g.S.Source.left c.loop-count.source) (g.S.Source.left c.read.new.self) (g.K.Sink.written c.args.sink.now) (g.K.Sink.written c.loop-count.sink) (so_far.far bytes is)
+      far =
+          far_more (reading_of c.args.session.now) (reading_of c.loop-count.session) (g.S.Source.left c.args.source.now) (g.S.Source.left c.loop-count.source) (g.S.Source.left c.read.new.self) (g.K.Sink.written c.args.sink.now) (g.K.Sink.written c.loop-count.sink) so_far.far
           (take c.in-Ok.count c.read.new.buf) c.in-Ok.ensures.bytes _ _ c.in-Ok-take.field-0 now.tells;
       kept = now.kept;
       piece = let kept = c.read.auto.buf in let piece = so_far.piece in omega arith;

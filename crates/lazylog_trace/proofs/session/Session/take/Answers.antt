@@ -1,11 +1,22 @@
-use Rattle.std.proofs.Common.{get_or, refl, arith}
+use Rattle.std.proofs.Common.{◌≡◌, get_or, refl, arith}
+use Rattle.io_edges.specs.declared.status.Status.TheVariants.{WriteFault}
 use Rattle.lazylog_trace.specs.Session.{reading_of}
-use Rattle.lazylog_trace.proofs.ByteTells.{one_more, stop_at}
+use Rattle.lazylog_trace.proofs.ByteTells.{one_more, stop_at, stop_led, stop_failed}
 use Rattle.lazylog_trace.proofs.session.Session.take.Goals as goal
 
 pub returns-in-Err-clause-tells : goal.returns-in-Err-clause-tells
 returns-in-Err-clause-tells g c =
     stop_at (reading_of c.args.self.now) (reading_of c.loop-byte.self) _ c.args.bytes.now c.loop-byte.byte-index (get_or c.args.bytes.now c.loop-byte.byte-index 0) (g.K.Sink.written c.args.sink.now) (g.K.Sink.written c.loop-byte.sink) (g.K.Sink.written c.take_byte.new.sink) _ (omega arith) refl c.loop-byte.invariant.so_far c.in-Err.ensures.tells
+
+pub returns-in-Err-clause-led : goal.returns-in-Err-clause-led
+returns-in-Err-clause-led g c =
+    stop_led (reading_of c.args.self.now) (reading_of c.loop-byte.self) (reading_of c.take_byte.new.self) c.args.bytes.now c.loop-byte.byte-index (get_or c.args.bytes.now c.loop-byte.byte-index 0) (g.K.Sink.written c.args.sink.now) (g.K.Sink.written c.loop-byte.sink) (g.K.Sink.written c.take_byte.new.sink) _ (omega arith) refl c.loop-byte.invariant.so_far c.in-Err.ensures.tells c.in-Err.ensures.led
+
+pub returns-in-Err-clause-failed : goal.returns-in-Err-clause-failed
+returns-in-Err-clause-failed g c = λ more e.
+    let is : c.in-Err.status ≡ WriteFault = cc in
+    stop_failed (reading_of c.args.self.now) (reading_of c.loop-byte.self) (reading_of c.take_byte.new.self) c.args.bytes.now c.loop-byte.byte-index (get_or c.args.bytes.now c.loop-byte.byte-index 0) (g.K.Sink.written c.args.sink.now) (g.K.Sink.written c.loop-byte.sink) (g.K.Sink.written c.take_byte.new.sink) _ (omega arith) refl c.loop-byte.invariant.so_far c.in-Err.ensures.tells c.in-Err.ensures.led
+    more (c.in-Err.ensures.newline e) is
 
 pub loop-byte-preserved : goal.loop-byte-preserved
 loop-byte-preserved g c =

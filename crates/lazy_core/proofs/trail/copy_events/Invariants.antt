@@ -1,5 +1,5 @@
 use Rattle.std.proofs.Common.{◌≡◌, ◌++◌, drop}
-use Rattle.lazylog_trace.proofs.top.copy_events.Given as goal
+use Rattle.lazy_core.proofs.trail.copy_events.Given as goal
 
 -- what was copied, and what is still to come
 abbrev pub invariant-loop-event : goal.invariant-loop-event

@@ -1,0 +1,88 @@
+-- What was printed is the history.
+use Rattle.std.proofs.Common.{◌≡◌, ◌≢◌, ℕ, List, [], ◌++◌, Option, inl, inr, refl, sym, ap, ◌∙◌, subst, append-nil}
+use Rattle.std.specs.Prelude.{Err}
+use Rattle.std.specs.Io.KnownBytes.{append_known}
+use Rattle.io_edges.specs.Telling.{Stops}
+use Rattle.io_edges.specs.declared.status.Status.{Status}
+use Rattle.io_edges.specs.declared.status.Status.TheVariants.{Done, Usage, BadLine, ReadFault, WriteFault, Memory, Limit}
+use Rattle.io_edges.proofs.TellingLemmas.{goes_on as goes_piece, stops_further, stops_going, stops_within}
+use Rattle.rec_id.specs.declared.event.Event.{Event}
+use Rattle.lazy_msgs.specs.declared.input.WorldEvent.{WorldEvent}
+use Rattle.lazy_rules.specs.WorldState.{WorldState}
+use Rattle.lazy_rules.specs.WorldRules.{run}
+use Rattle.lazylog_trace.specs.Output.{Reading, Told, told, line_told, script_told, behind, closing}
+use Rattle.lazylog_trace.specs.Printed.{Prints, Shows}
+use Rattle.lazylog_trace.specs.Traced.{Traced, TracedTo}
+use Rattle.lazylog_trace.proofs.Following.{Follows, behind_follows, line_follows, script_follows, told_follows}
+
+module _ (start : Reading) (fresh : start.world.history ≡ []) (bytes : List ℕ) (before after : Option (List ℕ)) (events : List WorldEvent) where
+  abbrev history : List Event
+  history = (run events start.world).history
+
+  -- what is told prints the history of its events
+  prints : (t : Told) → Follows start t → events ≡ t.events → Prints t.text history
+  prints t f is =
+      let grown : history ≡ f.growth = ap (λ (es : List WorldEvent). (run es start.world).history) is ∙ f.grew ∙ ap (λ (h : List Event). h ++ f.growth) fresh in
+      subst (λ (h : List Event). Prints t.text h) (sym grown) f.prints
+
+  whole_front : (text : List ℕ) → after ≡ append_known before text → Stops before after text
+  whole_front text written = stops_going (goes_piece text (sym (append-nil text)) written)
+
+  -- the script was read to its end, or to a line that stops it
+  at_end : (status : Status) → status ≢ ReadFault → status ≢ WriteFault → status ≢ Memory → Traced start bytes before after events status → Shows before after history status
+  at_end status one two three t = record {
+    text = (script_told start bytes).text;
+    last = (script_told start bytes).now;
+    prints = prints (script_told start bytes) (script_follows start bytes) (t.handled one two three);
+    whole = λ other. t.whole one two three;
+    front = whole_front ((script_told start bytes).text ++ closing (script_told start bytes).now) (t.whole one two three);
+  }
+
+  -- a front of the last piece of a text was written, and all before it
+  parts_front : (first last : List ℕ) → Stops (append_known before first) after last → Stops before after (first ++ last)
+  parts_front first last front = stops_further (goes_piece first refl refl) front
+
+  pub shown : (status : Status) → status ≢ Memory → Traced start bytes before after events status → Shows before after history status
+  shown Done other t = at_end Done (λ e. cc) (λ e. cc) (λ e. cc) t
+  shown Usage other t = at_end Usage (λ e. cc) (λ e. cc) (λ e. cc) t
+  shown (BadLine n) other t = at_end (BadLine n) (λ e. cc) (λ e. cc) (λ e. cc) t
+  shown (Limit n) other t = at_end (Limit n) (λ e. cc) (λ e. cc) (λ e. cc) t
+  shown Memory other t = absurd (other refl)
+  shown ReadFault other t =
+      let k = t.read refl in
+      record {
+        text = (told start k.0.read).text;
+        last = Err ReadFault;
+        prints = prints (told start k.0.read) (told_follows start k.0.read) k.1;
+        whole = λ e. k.2;
+        front = whole_front ((told start k.0.read).text ++ closing (Err ReadFault)) k.2;
+      }
+  shown WriteFault other t = elim (t.failed refl) [
+    | inl line ↦ record {
+      text = (told start line.0.read).text ++ (line_told line.0.now).text;
+      last = Err WriteFault;
+      prints = prints (behind (told start line.0.read) (line_told line.0.now)) (behind_follows start line.0.now (told start line.0.read) (line_told line.0.now) line.0.on (told_follows start line.0.read) (line_follows line.0.now)) line.1;
+      whole = λ e. absurd (e refl);
+      front = stops_within [] refl (parts_front (told start line.0.read).text (line_told line.0.now).text line.0.front);
+    }
+    | inr last ↦ elim last [
+      | inl whole ↦ record {
+        text = (script_told start bytes).text;
+        last = (script_told start bytes).now;
+        prints = prints (script_told start bytes) (script_follows start bytes) whole.handled;
+        whole = λ e. absurd (e refl);
+        front = parts_front (script_told start bytes).text (closing (script_told start bytes).now) whole.front;
+      }
+      | inr read ↦ record {
+        text = (told start read.0.read).text;
+        last = Err ReadFault;
+        prints = prints (told start read.0.read) (told_follows start read.0.read) read.1.handled;
+        whole = λ e. absurd (e refl);
+        front = parts_front (told start read.0.read).text (closing (Err ReadFault)) read.1.front;
+      }
+    ]
+  ]
+
+pub shows_to : (had : Option (List ℕ)) (start : Reading) (before after : Option (List ℕ)) (world : WorldState) (status : Status) → start.world.history ≡ [] → status ≢ Memory → TracedTo had start before after world status → Shows before after world.history status
+shows_to had start before after world status fresh other t =
+    subst (λ (w : WorldState). Shows before after w.history status) (sym (t.led other)) (shown start fresh t.bytes before after t.events status other t.traced)
