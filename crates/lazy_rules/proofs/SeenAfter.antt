@@ -14,7 +14,7 @@ use Rattle.view_config.specs.Shape.{Dimensions}
 use Rattle.lazy_rules.specs.Ids.{same_id, has_id}
 use Rattle.lazy_rules.specs.SeqState.{empty_window}
 use Rattle.lazy_rules.specs.Windows.{marks_of, has_seen, marked_in, marked_all, top_of}
-use Rattle.lazy_rules.proofs.Bits.{bit_of-words_where, length-words_where}
+use Rattle.rec_id.proofs.MarkBits.{bit_of-words_where, length-words_where}
 
 -- marking leaves the words as many
 pub length-mark : (marks : Marks) (number : ℕ) → length (mark marks number).bits ≡ length marks.bits

@@ -15,7 +15,7 @@ use Rattle.view_config.specs.Shape.{Dimensions}
 use Rattle.lazy_rules.specs.ClientState.{ClientState, first_client}
 use Rattle.lazy_rules.specs.SeqState.{first_seq, empty_window}
 use Rattle.lazy_rules.specs.WorldState.{first_world}
-use Rattle.lazy_rules.proofs.Bits.{length-words_where}
+use Rattle.rec_id.proofs.MarkBits.{length-words_where}
 use Rattle.view_config.specs.declared.edition.Edition.{Edition}
 use Rattle.view_config.specs.declared.edition.Edition.TheVariants.{One, Two}
 use Rattle.lazy_rules.proofs.SeenAfter.{has_seen-marked_all}

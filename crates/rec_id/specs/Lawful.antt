@@ -106,7 +106,7 @@ pub record IsTrimAskedBefore (history : List Event) (j floor : ℕ) : Type 0 whe
   pub asks : told_at asked_trim history index ≡ Some (trim, asked_floor)
   pub at_least : floor ≤ asked_floor
 
--- the read that ends at index j wanted places below the floor, and a trim of them was asked for before
+-- the read that ends at index j begins below the floor, and a trim up to there or further was asked for before
 pub record IsTrimmedRead (history : List Event) (j : ℕ) (read : Read) (floor : ℕ) : Type 0 where
   pub ends : EndsRead history j read
   pub below : asked_from ends.ask < floor

@@ -11,7 +11,8 @@ use Rattle.std.proofs.lemmas.Simd.{ones-mask_l}
 use Rattle.rec_id.specs.declared.marks.Marks.{Marks}
 use Rattle.rec_id.specs.Marks.{window_of, bit_of, bits_where, is_marked, stands_marked}
 use Rattle.seen_window.specs.Image.{marked_count}
-use Rattle.seen_window.proofs.BitLemmas.{bit_in, bit_of-low, bit_of-high, bits_where-is, bits_where-lt, bit_in-bits_where, same_digit}
+use Rattle.seen_window.proofs.BitLemmas.{same_digit}
+use Rattle.rec_id.proofs.MarkBits.{bit_in, bit_of-low, bit_of-high, bits_where-is, bits_where-lt, bit_in-bits_where}
 use Rattle.seen_window.proofs.Formed.{IsFormed}
 
 -- how many of so many numbers from `low` on pass

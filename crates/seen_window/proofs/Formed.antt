@@ -5,7 +5,7 @@ use Rattle.std.proofs.lemmas.Bool.{cases_lt, and_parts, and_from, or_cases, or_l
 use Rattle.rec_id.specs.declared.marks.Marks.{Marks}
 use Rattle.rec_id.specs.Marks.{window_of, bit_of, no_marks}
 use Rattle.seen_window.specs.Image.{marks_of, words_of, is_formed, is_image}
-use Rattle.seen_window.proofs.BitLemmas.{bit_of-past}
+use Rattle.rec_id.proofs.MarkBits.{bit_of-past}
 
 pub all_at : {X : Type 0} (p : X → Bool) (xs : List X) (i : ℕ) (d : X) → list_all p xs ≡ true → i < length xs → p (get_or xs i d) ≡ true
 all_at p [] i d all inside = absurd (omega arith)

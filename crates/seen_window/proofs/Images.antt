@@ -5,7 +5,7 @@ use Rattle.std.proofs.lemmas.List.{get_or_read, get_or-set_same, get_or-set_othe
 use Rattle.rec_id.specs.declared.marks.Marks.{Marks}
 use Rattle.rec_id.specs.Marks.{bit_of, is_marked, stands_marked, marks_where, mark, no_marks}
 use Rattle.seen_window.specs.Image.{marks_of, words_of, no_image, is_formed, is_image}
-use Rattle.seen_window.proofs.BitLemmas.{bit_of-words_where, bit_of-past, length-words_where}
+use Rattle.rec_id.proofs.MarkBits.{bit_of-words_where, bit_of-past, length-words_where}
 use Rattle.seen_window.proofs.Formed.{IsFormed, IsImage, formed_test, image_facts, image_test}
 
 pub where_formed : (words top : ℕ) (told : ℕ → Bool) → 1 ≤ words → (1 ≤ top → told top ≡ true) → IsFormed words (marks_where words top told)

@@ -3,7 +3,7 @@ use Rattle.std.proofs.Common.{◌≡◌, ℕ, zero, suc, ◌+◌, ◌-◌, ◌*�
 use Rattle.std.proofs.lemmas.Bool.{cases_lt, and_left, and_right, or_right, ne_eqb, lt-ltb, le-ltb, le-leb, lt-leb, leb-true}
 use Rattle.rec_id.specs.declared.marks.Marks.{Marks}
 use Rattle.rec_id.specs.Marks.{window_of, bit_of, is_marked, is_stale, is_seen, stands_marked, marks_where, mark}
-use Rattle.seen_window.proofs.BitLemmas.{bit_of-words_where, length-words_where}
+use Rattle.rec_id.proofs.MarkBits.{bit_of-words_where, length-words_where}
 use Rattle.seen_window.proofs.Counting.{count_in, one_if, count_in-suc, count_in-same, count_in-split}
 
 -- ---- seen by marks that are as told

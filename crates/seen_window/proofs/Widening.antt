@@ -8,7 +8,7 @@ use Rattle.std.proofs.lemmas.Nat.Bits.{bit_at-lt, bit_at_and, bit_at_ones, bit_a
 use Rattle.rec_id.specs.declared.marks.Marks.{Marks}
 use Rattle.rec_id.specs.Marks.{window_of, bit_of, is_marked, is_seen, stands_marked}
 use Rattle.seen_window.specs.Image.{widened}
-use Rattle.seen_window.proofs.BitLemmas.{bit_in, bit_of-low}
+use Rattle.rec_id.proofs.MarkBits.{bit_in, bit_of-low}
 use Rattle.seen_window.proofs.Marking.{marks_are}
 
 -- ---- the words of ones
