@@ -2,6 +2,7 @@ use Rattle.std.proofs.Common.{◌≡◌, ℕ, ◌<◌, List, [], Bool, true, fal
 use Rattle.std.specs.List.{slice_get}
 use Rattle.std.proofs.lemmas.Bool.Decides.{nat_tests}
 use Rattle.std.proofs.lemmas.List.Elements.{All-nil, All-cons}
+use Rattle.list_facts.proofs.Cases.{either}
 use Rattle.rec_id.specs.Identity.{Identity}
 use Rattle.view_config.specs.Shape.{Dimensions}
 use Rattle.lazy_msgs.specs.declared.msg.Msg.{Msg}
@@ -14,11 +15,6 @@ use Rattle.lazy_rules.specs.Rows.{stays, answers}
 use Rattle.lazy_rules.specs.SeqState.{SeqState}
 use Rattle.lazy_rules.specs.SeqRules.{seq_took, on_append, with_item}
 use Rattle.lazy_core.specs.Early.{IsDue, IsInFirstView}
-
--- what holds of both outcomes of a test holds of the one that it chooses
-pub either : {A : Type 0} (P : A → Type 0) (b : Bool) (x y : A) → (b ≡ true → P x) → (b ≡ false → P y) → P (if b then x else y)
-either P true x y f g = f refl
-either P false x y f g = g refl
 
 -- an append that isn't turned away is of a client of the shape
 pub let_in : (shape : Dimensions) (from view : ℕ) (id : Identity) (bytes : Option (List ℕ)) → is_turned_away shape from (Append view id bytes) ≡ false → id.client < shape.clients

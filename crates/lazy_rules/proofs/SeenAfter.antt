@@ -11,7 +11,7 @@ use Rattle.view_config.specs.declared.edition.Edition.{Edition}
 use Rattle.view_config.specs.declared.edition.Edition.TheVariants.{One, Two}
 use Rattle.view_config.specs.Limits.{window_of as width_of}
 use Rattle.view_config.specs.Shape.{Dimensions}
-use Rattle.lazy_rules.specs.Ids.{same_id, has_id}
+use Rattle.rec_id.specs.Identity.{same_id, has_id}
 use Rattle.lazy_rules.specs.SeqState.{empty_window}
 use Rattle.lazy_rules.specs.Windows.{marks_of, has_seen, marked_in, marked_all, top_of}
 use Rattle.rec_id.proofs.MarkBits.{bit_of-words_where, length-words_where}

@@ -9,7 +9,7 @@ use Rattle.lazy_msgs.specs.declared.msg.Msg.TheVariants.{Append, AppendAck, Plac
 use Rattle.lazy_msgs.specs.Step.{Row}
 use Rattle.lazy_rules.specs.Door.{is_turned_away}
 use Rattle.lazy_rules.specs.Flight.{has_placing, has_ordering, with_place, with_order, has_later_probe, with_probe}
-use Rattle.lazy_rules.specs.Ids.{has_id}
+use Rattle.rec_id.specs.Identity.{has_id}
 use Rattle.lazy_rules.specs.Leading.{resends, begins, passes, finishes, forces, stable_sends}
 use Rattle.lazy_rules.specs.Roles.{is_first, follower_of, shard_led_by}
 use Rattle.lazy_rules.specs.Rows.{stays, answers, sends_all, followed, has_node}

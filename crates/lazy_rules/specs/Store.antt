@@ -10,7 +10,7 @@ use Rattle.rec_id.specs.declared.item.Cell.{Cell}
 use Rattle.rec_id.specs.declared.item.Item.{Item}
 use Rattle.view_config.specs.declared.edition.Mode.{Mode}
 use Rattle.view_config.specs.declared.edition.Mode.TheVariants.{M, St}
-use Rattle.lazy_rules.specs.Ids.{same_id}
+use Rattle.rec_id.specs.Identity.{same_id}
 
 -- what a shard replica stores: the order of all records, with the data of those of its own shard;
 -- data that has no place yet; how far the order is final; and below which place data was given up

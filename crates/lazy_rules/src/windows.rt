@@ -6,7 +6,7 @@ ghost use Rattle.rec_id.specs.Marks.{window_of};
 ghost use Rattle.rec_id.specs.declared.marks.Marks.{Marks};
 ghost use Rattle.view_config.specs.Limits.{window_of as width_of};
 ghost use Rattle.view_config.specs.Shape.{Dimensions};
-ghost use Rattle.lazy_rules.specs.Ids.{has_id, same_id};
+ghost use Rattle.rec_id.specs.Identity.{has_id, same_id};
 ghost use Rattle.lazy_rules.specs.SeqState.{empty_window};
 ghost use Rattle.lazy_rules.specs.Windows.{has_seen, marked_all, marked_in, top_of};
 

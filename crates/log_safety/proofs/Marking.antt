@@ -7,7 +7,7 @@ use Rattle.list_facts.proofs.Places.{at_set_cases}
 use Rattle.rec_id.specs.Identity.{Identity}
 use Rattle.rec_id.specs.Marks.{window_of, mark, no_marks}
 use Rattle.rec_id.specs.declared.marks.Marks.{Marks}
-use Rattle.lazy_rules.specs.Ids.{same_id}
+use Rattle.rec_id.specs.Identity.{same_id}
 use Rattle.lazy_rules.specs.Windows.{has_seen, marked_in, marks_of}
 use Rattle.lazy_rules.proofs.SeenAfter.{seen_one_more, length-mark}
 

@@ -6,7 +6,8 @@ use Rattle.std.proofs.lemmas.List.Folds.{list_any-append}
 use Rattle.std.proofs.lemmas.List.{take-append-drop}
 use Rattle.rec_id.specs.Identity.{Identity, IsIdentity, packed}
 use Rattle.rec_id.specs.declared.item.Item.{Item}
-use Rattle.pending_log.specs.Pending.{same_id, has_item, is_distinct}
+use Rattle.pending_log.specs.Pending.{has_item, is_distinct}
+use Rattle.rec_id.specs.Identity.{same_id}
 use Rattle.pending_log.specs.Kept.{AllValid}
 
 abbrev pub AreOne : Identity → Identity → Type 0

@@ -9,7 +9,7 @@ use Rattle.std.proofs.lemmas.List.Sums.{fails_before_first}
 use Rattle.lane_scan.proofs.First.{NoneBelow, position_found, position_none}
 use Rattle.rec_id.specs.Identity.{Identity, IsIdentity, packed}
 use Rattle.rec_id.specs.declared.item.Item.{Item}
-use Rattle.pending_log.specs.Pending.{same_id}
+use Rattle.rec_id.specs.Identity.{same_id}
 use Rattle.pending_log.specs.Kept.{AllValid}
 use Rattle.pending_log.proofs.Identities.{same_packed}
 

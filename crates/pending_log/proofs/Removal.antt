@@ -7,7 +7,8 @@ use Rattle.std.proofs.lemmas.List.Elements.{filter-append, filter_more}
 use Rattle.std.proofs.lemmas.List.Filters.{length-filter_both}
 use Rattle.rec_id.specs.Identity.{Identity}
 use Rattle.rec_id.specs.declared.item.Item.{Item}
-use Rattle.pending_log.specs.Pending.{Pending, same_id, has_id, has_item, is_distinct, without}
+use Rattle.pending_log.specs.Pending.{Pending, has_item, is_distinct, without}
+use Rattle.rec_id.specs.Identity.{same_id, has_id}
 use Rattle.pending_log.proofs.Identities.{same_by, not_same_turned, distinct_filter}
 
 -- the identities but the first that is this one

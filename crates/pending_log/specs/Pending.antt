@@ -1,20 +1,12 @@
-use Rattle.std.specs.Prelude.{ℕ, Bool, true, not, ◌&&◌, ◌==◌, List, [], ◌∷◌, filter}
+use Rattle.std.specs.Prelude.{ℕ, Bool, true, not, ◌&&◌, List, [], ◌∷◌, filter}
 use Rattle.std.specs.List.{list_any}
-use Rattle.rec_id.specs.Identity.{Identity}
+use Rattle.rec_id.specs.Identity.{Identity, same_id, has_id}
 use Rattle.rec_id.specs.declared.item.Item.{Item}
 
 -- the items of a log, and how many it has room for
 pub record Pending : Type 0 where
   pub items : List Item
   pub capacity : ℕ
-
--- the two identities are one
-abbrev pub same_id : Identity → Identity → Bool
-same_id a b = a.client == b.client && a.number == b.number
-
--- the identity is among these
-abbrev pub has_id : List Identity → Identity → Bool
-has_id ids id = list_any (λ other. same_id other id) ids
 
 -- an item of this identity is among these
 abbrev pub has_item : List Item → Identity → Bool

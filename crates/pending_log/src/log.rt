@@ -1,7 +1,7 @@
 //! The log itself.
 
 ghost use Rattle.std.specs.Prelude.{◌≡◌, ◌++◌, ◌∷◌, [], ◌<◌, ◌≤◌, ◌↔◌, drop, take, length, slice_get, position, false, Some, IfOk, IfErr, IsErr, is_some, IsTrue, OnOk, OnErr};
-ghost use Rattle.pending_log.specs.Pending.{has_id};
+ghost use Rattle.rec_id.specs.Identity.{has_id};
 
 use crate::ring::Ring;
 use plain_lists::Sequence;
@@ -34,7 +34,8 @@ fn is_among(ids: &[RecordId], id: &RecordId) -> bool
 }
 
 impl PendingLog {
-    ghost use Rattle.pending_log.specs.Pending.{Pending, same_id, has_item, is_distinct, without};
+    ghost use Rattle.pending_log.specs.Pending.{Pending, has_item, is_distinct, without};
+    ghost use Rattle.rec_id.specs.Identity.{same_id};
 
     /// An empty log with room for `capacity` items.
     pub fn with_capacity(alloc: Global, capacity: usize) -> Result<PendingLog, AllocError>

@@ -28,7 +28,8 @@ impl Model for Ring {
 }
 
 impl Ring {
-    ghost use Rattle.pending_log.specs.Pending.{Pending, same_id};
+    ghost use Rattle.pending_log.specs.Pending.{Pending};
+    ghost use Rattle.rec_id.specs.Identity.{same_id};
 
     pub(crate) fn with_capacity(alloc: Global, capacity: usize) -> Result<Ring, AllocError>
         ensures { IfOk result (λ made. made ≡ record { items = []; capacity = capacity }) }

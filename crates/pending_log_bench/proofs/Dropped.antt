@@ -3,7 +3,8 @@ use Rattle.std.proofs.Common.{◌≡◌, ℕ, zero, suc, List, [], ◌∷◌, fa
 use Rattle.std.proofs.lemmas.Bool.{or_parts}
 use Rattle.rec_id.specs.Identity.{Identity}
 use Rattle.rec_id.specs.declared.item.Item.{Item}
-use Rattle.pending_log.specs.Pending.{Pending, same_id, has_item}
+use Rattle.pending_log.specs.Pending.{Pending, has_item}
+use Rattle.rec_id.specs.Identity.{same_id}
 use Rattle.pending_log_bench.specs.Fresh.{IsFresh}
 
 absent_drop : (n : ℕ) (items : List Item) (id : Identity) → has_item items id ≡ false → has_item (drop n items) id ≡ false

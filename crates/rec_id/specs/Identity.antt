@@ -1,4 +1,5 @@
-use Rattle.std.specs.Prelude.{ℕ, ◌+◌, ◌*◌, ◌^◌, ◌%◌, ◌<◌, ◌≤◌}
+use Rattle.std.specs.Prelude.{ℕ, ◌+◌, ◌*◌, ◌^◌, ◌%◌, ◌<◌, ◌≤◌, List, Bool, ◌&&◌, ◌==◌}
+use Rattle.std.specs.List.{list_any}
 
 -- which client appended a record, and as which of its appends
 pub record Identity : Type 0 where
@@ -18,3 +19,11 @@ packed id = id.client * 2 ^ 32 + id.number
 -- the shard that keeps the data of the record, of so many
 abbrev pub shard_of : Identity → ℕ → ℕ
 shard_of id shards = (id.client + id.number) % shards
+
+-- the two identities are one
+abbrev pub same_id : Identity → Identity → Bool
+same_id a b = a.client == b.client && a.number == b.number
+
+-- the identity is among these
+abbrev pub has_id : List Identity → Identity → Bool
+has_id ids id = list_any (λ other. same_id other id) ids

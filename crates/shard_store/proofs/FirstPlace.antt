@@ -5,7 +5,7 @@ use Rattle.std.proofs.lemmas.Bool.{cases_lt, and_parts, eqb-true, cond-true, con
 use Rattle.std.proofs.lemmas.List.Sums.{position_or_len_is}
 use Rattle.rec_id.specs.Identity.{Identity}
 use Rattle.rec_id.specs.declared.item.Cell.{Cell}
-use Rattle.lazy_rules.specs.Ids.{same_id}
+use Rattle.rec_id.specs.Identity.{same_id}
 use Rattle.lazy_rules.specs.Store.{is_cell_of}
 use Rattle.shard_store.specs.Kinds.{is_of}
 use Rattle.shard_store.specs.declared.kinds.Kind.{Kind}

@@ -9,7 +9,7 @@ use Rattle.rec_id.specs.Identity.{Identity}
 use Rattle.rec_id.specs.declared.item.Body.{Body}
 use Rattle.rec_id.specs.declared.item.Body.TheVariants.{Elsewhere, Kept, Noop, Open, Gone}
 use Rattle.rec_id.specs.declared.item.Cell.{Cell}
-use Rattle.lazy_rules.specs.Ids.{same_id}
+use Rattle.rec_id.specs.Identity.{same_id}
 use Rattle.lazy_rules.specs.Store.{held_bytes, without_held, held_beside, kept_bytes, bytes_in, has_data, is_cell_of}
 use Rattle.shard_store.specs.Kinds.{is_kept}
 use Rattle.shard_store.specs.Settling.{has_in, held_after, held_again, held_again_all, held_beside_all, given_back, bytes_back, settled, settled_all}

@@ -10,7 +10,7 @@ use Rattle.rec_id.specs.Identity.{Identity}
 use Rattle.rec_id.specs.declared.item.Cell.{Cell}
 use Rattle.rec_id.specs.declared.item.Body.{Body}
 use Rattle.rec_id.specs.declared.item.Body.TheVariants.{Kept, Elsewhere, Open, Noop, Gone}
-use Rattle.lazy_rules.specs.Ids.{same_id}
+use Rattle.rec_id.specs.Identity.{same_id}
 use Rattle.lazy_rules.specs.Store.{held_bytes, without_held, kept_bytes, is_cell_of, bytes_in, given_up, given_up_cell}
 use Rattle.shard_store.specs.Links.{blank}
 use Rattle.shard_store.specs.Kinds.{is_of}

@@ -4,7 +4,7 @@ use Rattle.std.specs.List.{filter}
 use Rattle.std.proofs.lemmas.Bool.{and_parts, and_from, or_parts, or_from, not-true, not_from_false}
 use Rattle.std.proofs.lemmas.List.Folds.{list_any-append}
 use Rattle.rec_id.specs.Identity.{Identity}
-use Rattle.lazy_rules.specs.Ids.{same_id}
+use Rattle.rec_id.specs.Identity.{same_id}
 use Rattle.lazy_rules.specs.Store.{held_bytes, without_held, held_beside, filled_or_open}
 use Rattle.shard_store.specs.Holding.{is_held, is_distinct}
 use Rattle.shard_store.proofs.Identities.{apart_turned}

@@ -11,7 +11,7 @@ use Rattle.rec_id.specs.Identity.{Identity}
 use Rattle.rec_id.specs.declared.item.Body.{Body}
 use Rattle.rec_id.specs.declared.item.Body.TheVariants.{Elsewhere, Kept, Noop, Open, Gone}
 use Rattle.rec_id.specs.declared.item.Cell.{Cell}
-use Rattle.lazy_rules.specs.Ids.{same_id}
+use Rattle.rec_id.specs.Identity.{same_id}
 use Rattle.lazy_rules.specs.Store.{is_cell_of, is_open, bytes_in, kept_bytes}
 use Rattle.shard_store.specs.Kinds.{is_kept}
 use Rattle.shard_store.specs.Links.{blank}

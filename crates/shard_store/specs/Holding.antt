@@ -4,7 +4,7 @@ use Rattle.rec_id.specs.Identity.{Identity}
 use Rattle.rec_id.specs.declared.item.Cell.{Cell}
 use Rattle.rec_id.specs.declared.item.Body.{Body}
 use Rattle.rec_id.specs.declared.item.Body.TheVariants.{Kept}
-use Rattle.lazy_rules.specs.Ids.{same_id}
+use Rattle.rec_id.specs.Identity.{same_id}
 
 -- records that are held, and for how many more there is room
 pub record Holding : Type 0 where

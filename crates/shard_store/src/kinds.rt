@@ -1,7 +1,7 @@
 //! What a cell is asked for.
 
 ghost use Rattle.std.specs.Prelude.{◌≡◌};
-ghost use Rattle.lazy_rules.specs.Ids.{same_id};
+ghost use Rattle.rec_id.specs.Identity.{same_id};
 ghost use Rattle.lazy_rules.specs.Store.{is_cell_of};
 ghost use Rattle.shard_store.specs.Kinds.{is_of};
 

@@ -1,6 +1,7 @@
 use Rattle.std.proofs.Common.{ap, ◌∙◌}
 use Rattle.std.specs.Prelude.{is_some}
-use Rattle.pending_log.specs.Pending.{Pending, same_id, has_item}
+use Rattle.pending_log.specs.Pending.{Pending, has_item}
+use Rattle.rec_id.specs.Identity.{same_id}
 use Rattle.pending_log.proofs.Places.{place_found}
 use Rattle.pending_log.proofs.log.PendingLog.find.Goals as goal
 

@@ -1,6 +1,7 @@
 use Rattle.std.proofs.Common.{◌≡◌, ℕ, ◌+◌, ◌-◌, ◌≤◌, ◌⊎◌, true, List, not, length, inl, inr, sym, ap, ◌∙◌, arith}
 use Rattle.rec_id.specs.declared.item.Item.{Item}
-use Rattle.pending_log.specs.Pending.{Pending, has_id, without}
+use Rattle.pending_log.specs.Pending.{Pending, without}
+use Rattle.rec_id.specs.Identity.{has_id}
 use Rattle.pending_log.proofs.Identities.{distinct_filter}
 use Rattle.pending_log.proofs.Removal.{Turned, turned_kept, turned_room, turned_met, turned_stays, turned_back}
 use Rattle.pending_log.proofs.log.PendingLog.remove_ids.Goals as goal

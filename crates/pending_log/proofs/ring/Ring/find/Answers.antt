@@ -1,6 +1,7 @@
 use Rattle.std.proofs.Common.{ℕ, List, eqb, map, ap, ◌∙◌}
 use Rattle.std.specs.List.{position}
-use Rattle.pending_log.specs.Pending.{Pending, same_id}
+use Rattle.pending_log.specs.Pending.{Pending}
+use Rattle.rec_id.specs.Identity.{same_id}
 use Rattle.pending_log.proofs.Places.{word_of, place_of}
 use Rattle.pending_log.proofs.ring.Ring.find.Goals as goal
 

@@ -3,7 +3,7 @@ use Rattle.std.specs.List.{position}
 use Rattle.std.specs.Prelude.{not}
 use Rattle.std.proofs.Math.ListN.{set, length-set}
 use Rattle.std.proofs.lemmas.Option.{slice_get-get_or}
-use Rattle.lazy_rules.specs.Ids.{same_id}
+use Rattle.rec_id.specs.Identity.{same_id}
 use Rattle.lazy_rules.specs.Store.{held_bytes, without_held, given_up_cell}
 use Rattle.shard_store.specs.Links.{blank}
 use Rattle.shard_store.specs.Places.{Places}
