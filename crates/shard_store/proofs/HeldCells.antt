@@ -13,14 +13,10 @@ use Rattle.rec_id.specs.declared.item.Body.TheVariants.{Kept, Elsewhere, Open, N
 use Rattle.rec_id.specs.Identity.{same_id}
 use Rattle.lazy_rules.specs.Store.{held_bytes, without_held, kept_bytes, is_cell_of, bytes_in, given_up, given_up_cell}
 use Rattle.shard_store.specs.Links.{blank}
-use Rattle.shard_store.specs.Kinds.{is_of}
-use Rattle.shard_store.specs.declared.kinds.Kind.TheVariants.{Kept as KeptKind}
+use Rattle.shard_store.specs.Kinds.{is_kept}
 use Rattle.shard_store.specs.Holding.{is_held, is_distinct, record_in, records_in}
 use Rattle.shard_store.proofs.Identities.{same_is}
 use Rattle.shard_store.proofs.Holdings.{Pair, absent_without}
-
-abbrev pub is_mine : Identity → Cell → Bool
-is_mine id = is_cell_of (is_of KeptKind) id
 
 pub held_is_kept : (cells : List Cell) (id : Identity) → held_bytes (records_in cells) id ≡ kept_bytes cells id
 held_is_kept [] id = refl
@@ -50,7 +46,7 @@ records_in-append (x ∷ xs) ys = by_body x.body (records_in-append xs ys)
     by_body Gone rest = rest
 
 abbrev place_in : List Cell → Identity → ℕ
-place_in cells id = position_or_len (is_mine id) cells
+place_in cells id = position_or_len (is_cell_of is_kept id) cells
 
 -- the first kept cell of the record is given up
 pub given_is_without : (cells : List Cell) (id : Identity) → is_distinct (records_in cells) ≡ true → place_in cells id < length cells
@@ -84,8 +80,8 @@ given_is_without (x ∷ xs) id distinct inside = by_body (given_is_without xs id
     skipped more false body none is alone inside = later more (omega arith) alone ∙ ap (λ (other : Body). record_in x.id other ++ without_held (records_in xs) id) is ∙ ap (λ (l : List Pair). l ++ without_held (records_in xs) id) none
 
     by_body : (is_distinct (records_in xs) ≡ true → place_in xs id < length xs → records_in (set xs (place_in xs id) (given_up_cell (get_or xs (place_in xs id) blank))) ≡ without_held (records_in xs) id) → (body : Body) → x.body ≡ body → is_distinct (record_in x.id body ++ records_in xs) ≡ true
-        → cond (not (same_id x.id id && is_of KeptKind body)) (1 + place_in xs id) 0 < suc (length xs)
-        → records_in (set (x ∷ xs) (cond (not (same_id x.id id && is_of KeptKind body)) (1 + place_in xs id) 0) (given_up_cell (get_or (x ∷ xs) (cond (not (same_id x.id id && is_of KeptKind body)) (1 + place_in xs id) 0) blank)))
+        → cond (not (same_id x.id id && is_kept body)) (1 + place_in xs id) 0 < suc (length xs)
+        → records_in (set (x ∷ xs) (cond (not (same_id x.id id && is_kept body)) (1 + place_in xs id) 0) (given_up_cell (get_or (x ∷ xs) (cond (not (same_id x.id id && is_kept body)) (1 + place_in xs id) 0) blank)))
         ≡ without_held (record_in x.id body ++ records_in xs) id
     by_body more (Kept b) is alone inside = by_test more (same_id x.id id) b refl is alone inside
     by_body more Elsewhere is alone inside = skipped more (same_id x.id id) Elsewhere refl is alone inside

@@ -190,6 +190,22 @@ fn held_open_noop_cut(rt: HostRuntime) -> Result<(), Fail> {
     Ok(())
 }
 
+/// Half of the held data is taken out, so that the rest moves when room is wanted.
+#[test]
+fn held_data_outlives_a_move(rt: HostRuntime) -> Result<(), Fail> {
+    let alloc = rt.alloc();
+    let mut store = ShardStore::new(alloc, Mode::St, 0, 1);
+    for (number, byte) in [(1, b'a'), (2, b'b'), (3, b'c'), (4, b'd')] {
+        hold(alloc, &mut store, number, byte)?;
+    }
+    extend(&mut store, &items(alloc, &[(2, None), (4, None)])?)?;
+    expect(alloc, &store, "KbKd")?;
+    hold(alloc, &mut store, 5, b'e')?;
+    let all = [(1, None), (2, None), (3, None), (4, None), (5, None)];
+    extend(&mut store, &items(alloc, &all)?)?;
+    expect(alloc, &store, "KbKdKaOKcOKe")
+}
+
 /// Data comes early and late, cells as items and as they are.
 fn fills_up(alloc: Global, mode: Mode, wants: [&str; 3]) -> Result<ShardStore, Fail> {
     let mut store = ShardStore::new(alloc, mode, 0, 2);

@@ -4,23 +4,24 @@ use Rattle.std.specs.Prelude.{not}
 use Rattle.std.proofs.Math.ListN.{set, length-set}
 use Rattle.std.proofs.lemmas.Option.{slice_get-get_or}
 use Rattle.rec_id.specs.Identity.{same_id}
-use Rattle.lazy_rules.specs.Store.{held_bytes, without_held, given_up_cell}
+use Rattle.lazy_rules.specs.Store.{held_bytes, without_held, is_cell_of, given_up_cell}
+use Rattle.shard_store.specs.Kinds.{is_kept}
 use Rattle.shard_store.specs.Links.{blank}
 use Rattle.shard_store.specs.Places.{Places}
 use Rattle.shard_store.specs.Holding.{Holding, is_distinct, records_in}
 use Rattle.shard_store.proofs.Positions.{position_some}
 use Rattle.shard_store.proofs.Searches.{kept_found, kept_none}
 use Rattle.shard_store.proofs.Holdings.{Pair, no_bytes_absent, absent_without, distinct_filter}
-use Rattle.shard_store.proofs.HeldCells.{is_mine, held_is_kept, given_is_without}
+use Rattle.shard_store.proofs.HeldCells.{held_is_kept, given_is_without}
 use Rattle.shard_store.proofs.held.Held.take.Goals as goal
 
-found : (c : goal.After-take_data) → Some c.in-Some.place ≡ position (is_mine c.args.id) c.self.inside.cells.cells
+found : (c : goal.After-take_data) → Some c.in-Some.place ≡ position (is_cell_of is_kept c.args.id) c.self.inside.cells.cells
 found c = sym c.in-Some.is ∙ c.first.ensures
 
 rest : (c : goal.After-take_data) → records_in c.take_data.new.self.cells ≡ without_held (records_in c.self.inside.cells.cells) c.args.id
 rest c =
     let cells = c.self.inside.cells.cells in
-    let facts = position_some (is_mine c.args.id) cells c.in-Some.place (found c) in
+    let facts = position_some (is_cell_of is_kept c.args.id) cells c.in-Some.place (found c) in
     ap (λ (o : Places). records_in o.cells) c.take_data.ensures.cells
     ∙ ap (λ (k : ℕ). records_in (set cells k (given_up_cell (get_or cells k blank)))) facts.1
     ∙ given_is_without cells c.args.id c.self.invariant.0 facts.0
@@ -52,7 +53,7 @@ returns-in-None-clause-rest c =
 pub returns-in-Some-clause-bytes : goal.returns-in-Some-clause-bytes
 returns-in-Some-clause-bytes c =
     let cells = c.self.inside.cells.cells in
-    let facts = position_some (is_mine c.args.id) cells c.in-Some.place (found c) in
+    let facts = position_some (is_cell_of is_kept c.args.id) cells c.in-Some.place (found c) in
     c.take_data.ensures.bytes
     ∙ kept_found cells c.args.id c.in-Some.place (get_or cells c.in-Some.place blank) (found c) (slice_get-get_or cells c.in-Some.place blank (omega (arith, facts.0, facts.1)))
     ∙ sym (held_is_kept cells c.args.id) ∙ ap (λ (held : Holding). held_bytes held.records c.args.id) c.self.view_is
