@@ -1,9 +1,11 @@
 //! The work of `crates/shard_store_bench`.
 
+use std::collections::HashMap;
+
 const BATCH: u32 = 64;
 const BATCHES: u32 = 1_024;
 
-#[derive(Clone, Copy, PartialEq, Eq)]
+#[derive(Clone, Copy, PartialEq, Eq, Hash)]
 struct RecordId {
     client: u32,
     number: u32,
@@ -46,7 +48,7 @@ struct ShardStore {
     heads: Vec<u32>,
     before: Vec<u32>,
     opens: Vec<u32>,
-    held: Vec<(RecordId, Vec<u8>)>,
+    held: HashMap<RecordId, Vec<u8>>,
     stable: u32,
 }
 
@@ -58,7 +60,7 @@ impl ShardStore {
             heads: Vec::new(),
             before: Vec::new(),
             opens: Vec::new(),
-            held: Vec::new(),
+            held: HashMap::new(),
             stable: 0,
         }
     }
@@ -105,9 +107,18 @@ impl ShardStore {
         Some(cell)
     }
 
-    fn take(&mut self, id: RecordId) -> Option<Vec<u8>> {
-        let i = self.held.iter().position(|one| one.0 == id)?;
-        Some(self.held.remove(i).1)
+    fn has(&self, id: RecordId) -> bool {
+        self.held.contains_key(&id)
+            || self
+                .first(id, |body| matches!(body, Body::Kept(_) | Body::Gone))
+                .is_some()
+    }
+
+    #[inline(never)]
+    fn hold(&mut self, id: RecordId, bytes: Vec<u8>) {
+        if !self.has(id) {
+            self.held.insert(id, bytes);
+        }
     }
 
     #[inline(never)]
@@ -115,7 +126,7 @@ impl ShardStore {
         let drafts: Vec<Item> = items.to_vec();
         self.reserve(items.len());
         for Item { id, bytes } in drafts {
-            let held = self.take(id);
+            let held = self.held.remove(&id);
             let body = match bytes.or(held) {
                 Some(bytes) => Body::Kept(bytes),
                 None => Body::Open,
@@ -126,6 +137,10 @@ impl ShardStore {
 
     #[inline(never)]
     fn open_at(&self, id: RecordId) -> Option<u32> {
+        self.first(id, |body| *body == Body::Open)
+    }
+
+    fn first(&self, id: RecordId, is_of: impl Fn(&Body) -> bool) -> Option<u32> {
         if self.heads.is_empty() {
             return None;
         }
@@ -134,7 +149,7 @@ impl ShardStore {
         while end > 0 {
             let place = end - 1;
             let cell = &self.cells[place as usize];
-            if cell.id == id && cell.body == Body::Open {
+            if cell.id == id && is_of(&cell.body) {
                 found = Some(place);
             }
             end = self.before[place as usize];
@@ -174,9 +189,7 @@ impl ShardStore {
         }
         for cell in tail.into_iter().rev() {
             if let Body::Kept(bytes) = cell.body {
-                if !self.held.iter().any(|one| one.0 == cell.id) {
-                    self.held.push((cell.id, bytes));
-                }
+                self.hold(cell.id, bytes);
             }
         }
     }
@@ -223,6 +236,36 @@ fn filled_store() -> ShardStore {
     store
 }
 
+fn held_store() -> ShardStore {
+    let mut store = ShardStore::new(false);
+    for i in 0..BATCHES {
+        for k in 0..BATCH {
+            let number = 1 + BATCH * i + k;
+            let id = RecordId {
+                client: k % 16,
+                number,
+            };
+            store.hold(id, number.to_le_bytes().to_vec());
+        }
+    }
+    for i in 0..BATCHES {
+        store.extend(&batch(1 + BATCH * i, false));
+    }
+    store
+}
+
+fn kept_sum(store: &ShardStore) -> u64 {
+    let mut sum = 0u64;
+    for cell in &store.cells {
+        if let Body::Kept(bytes) = &cell.body {
+            for byte in bytes {
+                sum = sum.wrapping_mul(31).wrapping_add(u64::from(*byte));
+            }
+        }
+    }
+    sum
+}
+
 fn round(mode: &str) -> u64 {
     match mode {
         "extend" => u64::from(full_store().len()),
@@ -237,6 +280,7 @@ fn round(mode: &str) -> u64 {
             }
             u64::from(store.len())
         }
+        "held" => kept_sum(&held_store()),
         _ => 0,
     }
 }

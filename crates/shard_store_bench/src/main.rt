@@ -1,12 +1,13 @@
-//! Extends, fills, reads and cuts a store of 65,536 places, as often as it is told, for a look at the
-//! time that it takes. It prints a checksum and no times. Its words are a mode (`extend`, `fill`,
-//! `part` or `cut`) and a number of rounds. `bench/run` compares it with the same work in Rust.
+//! Extends, fills, reads and cuts a store of 65,536 places, or holds the data of as many records
+//! before their places, as often as it is told, for a look at the time that it takes. It prints a
+//! checksum and no times. Its words are a mode (`extend`, `fill`, `part`, `cut` or `held`) and a number
+//! of rounds. `bench/run` compares it with the same work in Rust.
 #![tactic(auto)]
 
 ghost use Rattle.std.specs.Prelude.{◌≡◌, ◌≤◌};
 
 use plain_lists::Sequence;
-use rec_id::{Bytes, Item, ItemList, RecordId};
+use rec_id::{Body, Bytes, Cell, Item, ItemList, RecordId};
 use shard_store::ShardStore;
 use std::alloc::{AllocError, Global};
 use std::io;
@@ -88,6 +89,57 @@ fn filled_store(alloc: Global) -> Result<ShardStore, AllocError> {
     Ok(store)
 }
 
+fn hold_one(
+    alloc: Global,
+    store: &mut ShardStore,
+    client: u32,
+    number: u32,
+) -> Result<(), AllocError> {
+    if let Ok(id) = RecordId::new(client, number) {
+        store.hold(id, Bytes::copy(alloc, &number.to_le_bytes())?)?;
+    }
+    Ok(())
+}
+
+fn hold_batch(alloc: Global, store: &mut ShardStore, first: u32) -> Result<(), AllocError> {
+    for i in 0..BATCH {
+        hold_one(alloc, store, i % 16, first.saturating_add(i))?;
+    }
+    Ok(())
+}
+
+/// A store whose data came before all places.
+fn held_store(alloc: Global) -> Result<ShardStore, AllocError> {
+    let mut store = ShardStore::new(alloc, Mode::St, 0, 1);
+    for i in 0..BATCHES {
+        hold_batch(alloc, &mut store, 1 + BATCH * i)?;
+    }
+    for i in 0..BATCHES {
+        let items = batch(alloc, 1 + BATCH * i, false)?;
+        extend(&mut store, &items)?;
+    }
+    Ok(store)
+}
+
+/// A sum that depends on each byte that is kept, and on their order.
+fn kept_sum(store: &ShardStore) -> u64 {
+    let mut sum = 0u64;
+    for place in 0..store.len() {
+        sum = with_cell(sum, store.cell(place));
+    }
+    sum
+}
+
+fn with_cell(sum: u64, cell: &Cell) -> u64 {
+    let mut sum = sum;
+    if let Body::Kept(bytes) = &cell.body {
+        for byte in bytes.as_slice() {
+            sum = sum.wrapping_mul(31).wrapping_add(u64::from(*byte));
+        }
+    }
+    sum
+}
+
 fn raise(store: &mut ShardStore, to: u32) {
     if to < store.stable() {
         return;
@@ -144,6 +196,7 @@ fn round(alloc: Global, mode: &str) -> Result<u64, AllocError> {
             cut_all(&mut store)?;
             Ok(u64::from(store.len()))
         }
+        "held" => Ok(kept_sum(&held_store(alloc)?)),
         _ => Ok(0),
     }
 }
