@@ -1,6 +1,6 @@
-use Rattle.std.proofs.Common.{◌≡◌, ℕ, List, [], ◌++◌, Option, None, Some, refl, ap, append_assoc, append-nil, sym, ◌∙◌}
+use Rattle.std.proofs.Common.{◌≡◌, ◌≢◌, ℕ, List, [], ◌∷◌, ◌++◌, Option, None, Some, refl, ap, append_assoc, append-nil, sym, ◌∙◌}
 use Rattle.std.specs.Io.KnownBytes.{append_known, prepend_known}
-use Rattle.io_edges.specs.Telling.{Goes, Stops}
+use Rattle.io_edges.specs.Telling.{Goes, Stops, Fails}
 
 -- no bytes more
 pub append_known-nil : (known : Option (List ℕ)) → append_known known [] ≡ known
@@ -15,25 +15,26 @@ append_known-append (Some bytes) front rest = ap Some (append_assoc bytes front 
 
 -- nothing was written
 pub goes_same : (known : Option (List ℕ)) (coming : List ℕ) → Goes known known coming coming
-goes_same known coming = record { whole = refl }
+goes_same known coming = record { piece = []; comes = refl; written = sym (append_known-nil known) }
 
 -- a piece of what was to come was written
 pub goes_on : {before after : Option (List ℕ)} {coming coming_now : List ℕ} (piece : List ℕ) →
     coming ≡ piece ++ coming_now → after ≡ append_known before piece → Goes before after coming coming_now
-goes_on {before = before} {coming_now = coming_now} piece comes written = record {
-  whole = ap (λ known. append_known known coming_now) written
-      ∙ (append_known-append before piece coming_now ∙ ap (λ bytes. append_known before bytes) (sym comes));
-}
+goes_on piece comes written = record { piece = piece; comes = comes; written = written }
 
 -- one way after another
 pub goes_further : {before between after : Option (List ℕ)} {coming coming_then coming_now : List ℕ} →
     Goes before between coming coming_then → Goes between after coming_then coming_now → Goes before after coming coming_now
-goes_further first second = record { whole = second.whole ∙ first.whole }
+goes_further {before = before} {coming_now = coming_now} first second = record {
+  piece = first.piece ++ second.piece;
+  comes = first.comes ∙ ap (λ (rest : List ℕ). first.piece ++ rest) second.comes ∙ sym (append_assoc first.piece second.piece coming_now);
+  written = second.written ∙ ap (λ (known : Option (List ℕ)). append_known known second.piece) first.written ∙ append_known-append before first.piece second.piece;
+}
 
 -- all that was to come was written
 pub goes_all : {before after : Option (List ℕ)} {coming : List ℕ} →
     Goes before after coming [] → after ≡ append_known before coming
-goes_all {after = after} goes = sym (append_known-nil after) ∙ goes.whole
+goes_all {before = before} goes = goes.written ∙ ap (λ (bytes : List ℕ). append_known before bytes) (sym (goes.comes ∙ append-nil goes.piece))
 
 -- what goes may stop
 pub stops_going : {before after : Option (List ℕ)} {coming coming_now : List ℕ} →
@@ -44,22 +45,43 @@ stops_going {coming_now = coming_now} goes = record { unwritten = coming_now; go
 pub stops_same : (known : Option (List ℕ)) (coming : List ℕ) → Stops known known coming
 stops_same known coming = record { unwritten = coming; goes = goes_same known coming }
 
+-- it went within a piece of what was to come
+goes_within : {before after : Option (List ℕ)} {piece coming rest : List ℕ} (more : List ℕ) →
+    coming ≡ piece ++ more → Goes before after piece rest → Goes before after coming (rest ++ more)
+goes_within {rest = rest} more comes goes = record {
+  piece = goes.piece;
+  comes = comes ∙ ap (λ (bytes : List ℕ). bytes ++ more) goes.comes ∙ append_assoc goes.piece rest more;
+  written = goes.written;
+}
+
 -- it stopped within a piece of what was to come
 pub stops_within : {before after : Option (List ℕ)} {piece coming : List ℕ} (more : List ℕ) →
     coming ≡ piece ++ more → Stops before after piece → Stops before after coming
-stops_within {before = before} {after = after} {piece = piece} more comes stops = record {
-  unwritten = stops.unwritten ++ more;
-  goes = record {
-    whole = sym (append_known-append after stops.unwritten more)
-        ∙ (ap (λ known. append_known known more) stops.goes.whole
-        ∙ (append_known-append before piece more ∙ ap (λ bytes. append_known before bytes) (sym comes)));
-  };
-}
+stops_within more comes stops = record { unwritten = stops.unwritten ++ more; goes = goes_within more comes stops.goes }
 
 -- it went, and then stopped
 pub stops_further : {before between after : Option (List ℕ)} {coming coming_then : List ℕ} →
     Goes before between coming coming_then → Stops between after coming_then → Stops before after coming
 stops_further goes stops = record { unwritten = stops.unwritten; goes = goes_further goes stops.goes }
+
+-- it failed where something was still to come
+pub fails_going : {before after : Option (List ℕ)} {coming coming_now : List ℕ} →
+    Goes before after coming coming_now → coming_now ≢ [] → Fails before after coming
+fails_going {coming_now = coming_now} goes some = record { unwritten = coming_now; goes = goes; some = some }
+
+no_less : (bytes more : List ℕ) → bytes ≢ [] → bytes ++ more ≢ []
+no_less [] more some e = some refl
+no_less (byte ∷ bytes) more some e = cc
+
+-- it failed within a piece of what was to come
+pub fails_within : {before after : Option (List ℕ)} {piece coming : List ℕ} (more : List ℕ) →
+    coming ≡ piece ++ more → Fails before after piece → Fails before after coming
+fails_within more comes fails = record { unwritten = fails.unwritten ++ more; goes = goes_within more comes fails.goes; some = no_less fails.unwritten more fails.some }
+
+-- it went, and then failed
+pub fails_further : {before between after : Option (List ℕ)} {coming coming_then : List ℕ} →
+    Goes before between coming coming_then → Fails between after coming_then → Fails before after coming
+fails_further goes fails = record { unwritten = fails.unwritten; goes = goes_further goes fails.goes; some = fails.some }
 
 -- what a source that tells its bytes has left behind those that were taken
 pub record Rest (left : Option (List ℕ)) (bytes taken : List ℕ) : Type 0 where

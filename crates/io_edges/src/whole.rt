@@ -3,7 +3,7 @@
 ghost use Rattle.std.specs.Prelude.{◌≡◌, ◌≤◌, OnOk, IsErrOf};
 ghost use Rattle.std.specs.Io.KnownBytes.{append_known};
 ghost use Rattle.io_edges.specs.Faults.{Rose};
-ghost use Rattle.io_edges.specs.Telling.{Stops};
+ghost use Rattle.io_edges.specs.Telling.{Fails, Stops};
 
 use crate::{Sink, SinkFailed};
 
@@ -13,6 +13,9 @@ pub fn write_all<K: Sink>(sink: &mut K, bytes: &[u8]) -> Result<(), SinkFailed>
     ensures whole { OnOk result (K.written sink.new ≡ append_known (K.written sink.old) bytes.now) }
     // This holds however the call ended.
     ensures front { Stops (K.written sink.old) (K.written sink.new) bytes.now }
+
+    // Where a write failed, not all of it is written.
+    ensures fails { IsErrOf result SinkFailed.Failed → Fails (K.written sink.old) (K.written sink.new) bytes.now }
 
     ensures failed { IsErrOf result SinkFailed.Failed → Rose (K.faults sink.old) (K.faults sink.new) }
     ensures faultless { OnOk result (K.faults sink.new ≡ K.faults sink.old) }

@@ -6,22 +6,22 @@ use Rattle.std.proofs.lemmas.Bool.{eq-eqb, ne_eqb, le-leb, lt-leb}
 use Rattle.std.proofs.lemmas.List.{take-append-drop, drop_more, take_more}
 use Rattle.view_config.specs.Limits.{line_limit}
 use Rattle.io_edges.specs.declared.status.Status.{Status}
-use Rattle.io_edges.proofs.TellingLemmas.{append_known-nil, append_known-append, goes_on as goes_piece, stops_further, stops_within, stops_same}
+use Rattle.io_edges.proofs.TellingLemmas.{append_known-nil, append_known-append, goes_on as goes_piece, fails_further, fails_within, stops_further, stops_within, stops_same}
 use Rattle.io_edges.specs.declared.status.Status.TheVariants.{WriteFault, Memory}
 use Rattle.lazy_msgs.specs.declared.input.WorldEvent.{WorldEvent}
 use Rattle.lazy_rules.specs.WorldRules.{run}
-use Rattle.io_edges.specs.Telling.{Stops}
+use Rattle.io_edges.specs.Telling.{Fails}
 use Rattle.lazylog_trace.specs.Traced.{FailedIn, Led, Tells}
 use Rattle.log_safety.proofs.Runs.{run_append}
 use Rattle.lazylog_trace.proofs.Following.{told_follows}
-use Rattle.lazylog_trace.specs.Output.{Reading, Told, behind, line_told, long_told, byte_told, goes_on, further, further_from, told}
+use Rattle.lazylog_trace.specs.Output.{Reading, Told, behind, line_done, long_told, byte_told, goes_on, further, further_from, told}
 
 module _ (r : Reading) (byte : ℕ) where
-  newline_told : byte ≡ 10 → byte_told r byte ≡ line_told r
-  newline_told is = ap (λ (b : Bool). if b then line_told r else (if nat_le (line_limit r.world.shape.edition) (length r.line) then long_told r else goes_on (record r { line = r.line ++ byte ∷ [] }))) (eq-eqb byte 10 is)
+  newline_told : byte ≡ 10 → byte_told r byte ≡ line_done r
+  newline_told is = ap (λ (b : Bool). if b then line_done r else (if nat_le (line_limit r.world.shape.edition) (length r.line) then long_told r else goes_on (record r { line = r.line ++ byte ∷ [] }))) (eq-eqb byte 10 is)
 
   other_told : byte ≢ 10 → byte_told r byte ≡ (if nat_le (line_limit r.world.shape.edition) (length r.line) then long_told r else goes_on (record r { line = r.line ++ byte ∷ [] }))
-  other_told other = ap (λ (b : Bool). if b then line_told r else (if nat_le (line_limit r.world.shape.edition) (length r.line) then long_told r else goes_on (record r { line = r.line ++ byte ∷ [] }))) (ne_eqb byte 10 other)
+  other_told other = ap (λ (b : Bool). if b then line_done r else (if nat_le (line_limit r.world.shape.edition) (length r.line) then long_told r else goes_on (record r { line = r.line ++ byte ∷ [] }))) (ne_eqb byte 10 other)
 
   long_is : byte ≢ 10 → line_limit r.world.shape.edition ≤ length r.line → byte_told r byte ≡ long_told r
   long_is other full = other_told other ∙ ap (λ (b : Bool). if b then long_told r else goes_on (record r { line = r.line ++ byte ∷ [] })) (le-leb (line_limit r.world.shape.edition) (length r.line) full)
@@ -30,7 +30,7 @@ module _ (r : Reading) (byte : ℕ) where
   more_is other room = other_told other ∙ ap (λ (b : Bool). if b then long_told r else goes_on (record r { line = r.line ++ byte ∷ [] })) (lt-leb (line_limit r.world.shape.edition) (length r.line) room)
 
   module _ {R : Type 0} (before after : Option (List ℕ)) (now : Reading) (outcome : Result R Status) where
-    pub newline_tells : byte ≡ 10 → Tells (line_told r) before after now outcome → Tells (byte_told r byte) before after now outcome
+    pub newline_tells : byte ≡ 10 → Tells (line_done r) before after now outcome → Tells (byte_told r byte) before after now outcome
     newline_tells is h = subst (λ (t : Told). Tells t before after now outcome) (sym (newline_told is)) h
 
     pub too_long_tells : byte ≢ 10 → line_limit r.world.shape.edition ≤ length r.line → Tells (long_told r) before after now outcome → Tells (byte_told r byte) before after now outcome
@@ -42,6 +42,7 @@ module _ (r : Reading) (byte : ℕ) where
     whole = sym (append_known-nil known);
     stopped = tt;
     written = tt;
+    failed = λ e. cc;
     front = stops_same known [];
   })
 
@@ -95,6 +96,7 @@ tells_further {R = R} start r now bytes more before between after outcome so_far
       whole = t.whole ∙ ap (λ (k : Option (List ℕ)). append_known k (told r more).text) so_far.written ∙ append_known-append before (told start bytes).text (told r more).text;
       stopped = tt;
       written = tt;
+      failed = λ e. cc;
       front = stops_further (goes_piece (told start bytes).text refl so_far.written) t.front;
     }
     by (Err status) t = record {
@@ -102,6 +104,7 @@ tells_further {R = R} start r now bytes more before between after outcome so_far
       whole = tt;
       stopped = t.stopped;
       written = λ one other. t.written one other ∙ ap (λ (k : Option (List ℕ)). append_known k (told r more).text) so_far.written ∙ append_known-append before (told start bytes).text (told r more).text;
+      failed = λ e. fails_further (goes_piece (told start bytes).text refl so_far.written) (t.failed e);
       front = stops_further (goes_piece (told start bytes).text refl so_far.written) t.front;
     }
 
@@ -114,6 +117,7 @@ module _ {R : Type 0} (r now : Reading) (byte : ℕ) (rest : List ℕ) (before a
     whole = tt;
     stopped = λ one other. let wrong : Ok next ≡ Err status = sym e ∙ t.stopped one other in cc;
     written = λ one other. let wrong : Ok next ≡ Err status = sym e ∙ t.stopped one other in cc;
+    failed = λ f. fails_within (told next rest).text refl (t.failed f);
     front = stops_within (told next rest).text refl t.front;
   })
 
@@ -129,6 +133,7 @@ one_more {R = R} start r now bytes i byte before between after x there is so_far
       whole = t.whole ∙ ap (append_known between) (sym (append-nil (byte_told r byte).text));
       stopped = tt;
       written = tt;
+      failed = λ e. cc;
       front = stops_within [] refl t.front;
     }) in
     let both = tells_further start r now (take i bytes) (byte ∷ []) before between after (Ok x) so_far one in
@@ -166,7 +171,7 @@ module _ {R : Type 0} (start r now : Reading) (bytes : List ℕ) (i byte : ℕ) 
       bytes_are = ap (λ (bs : List ℕ). bs ++ more) (sym parts_are) ∙ append_assoc (take i bytes) (byte ∷ drop (i + 1) bytes) more;
       ends = newline;
       on = so_far.on;
-      front = subst (λ (k : Option (List ℕ)). Stops k after (line_told r).text) so_far.written (subst (λ (t : Told). Stops between after t.text) (newline_told r byte newline) tells.front);
+      front = subst (λ (k : Option (List ℕ)). Fails k after (line_done r).text) so_far.written (subst (λ (t : Told). Fails between after t.text) (newline_told r byte newline) (tells.failed (ap Err is)));
     };
     world_is = led.leads (λ e. let wrong : WriteFault ≡ Memory = let same : status ≡ Memory = cc in sym is ∙ same in cc) ∙ ap (λ (t : Told). run t.events r.world) (newline_told r byte newline);
   }

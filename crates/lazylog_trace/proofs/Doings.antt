@@ -9,7 +9,7 @@ use Rattle.lazy_msgs.specs.declared.refused.EventRefused.{EventRefused}
 use Rattle.lazy_rules.specs.WorldRules.{IsWithinLimits, after, accepted, happened, refusal, run, messages_limit, weight_limit, sent_weight}
 use Rattle.lazy_rules.specs.WorldState.{WorldState}
 use Rattle.lazylog_trace.specs.declared.handling.Outcome.TheVariants.{Through, Spent}
-use Rattle.lazylog_trace.specs.Doing.{Did, Done, led_to, deliveries, did, handled, is_spent, is_within}
+use Rattle.lazylog_trace.specs.Doing.{Did, LedTo, led_to, deliveries, did, handled, is_spent, is_within}
 
 -- the limits, as a test
 within_true : (w : WorldState) → IsWithinLimits w → is_within w ≡ true
@@ -63,15 +63,15 @@ did_on : (w new : WorldState) (event : WorldEvent) (events : List WorldEvent) �
 did_on w new event events d = by (is_spent w event) refl d.done
   where
     by : (b : Bool) → is_spent w event ≡ b → (if b then led_to w true else led_to (happened w event) false) ≡ led_to new false → (if b then led_to w true else did (happened w event) events) ≡ did new events
-    by true e h = let wrong : true ≡ false = ap (λ (x : Done). x.spent) h in cc
-    by false e h = ap (λ (x : WorldState). did x events) (ap (λ (x : Done). x.world) h)
+    by true e h = let wrong : true ≡ false = ap (λ (x : LedTo). x.spent) h in cc
+    by false e h = ap (λ (x : WorldState). did x events) (ap (λ (x : LedTo). x.world) h)
 
 did_stop : (w new : WorldState) (event : WorldEvent) (events : List WorldEvent) → Did (event ∷ []) w new Spent → did w (event ∷ events) ≡ led_to new true
 did_stop w new event events d = by (is_spent w event) refl d.done
   where
     by : (b : Bool) → is_spent w event ≡ b → (if b then led_to w true else led_to (happened w event) false) ≡ led_to new true → (if b then led_to w true else did (happened w event) events) ≡ led_to new true
     by true e h = h
-    by false e h = let wrong : false ≡ true = ap (λ (x : Done). x.spent) h in cc
+    by false e h = let wrong : false ≡ true = ap (λ (x : LedTo). x.spent) h in cc
 
 next_delivery : (first count i : ℕ) → i < count → deliveries (first + i) (count - i) ≡ Deliver (first + i) ∷ deliveries (first + (i + 1)) (count - (i + 1))
 next_delivery first count i lt =

@@ -1,18 +1,18 @@
--- Where what is told of bytes leads to: the world is that of the run of the events that happened, and what is
--- printed is what its history gained.
-use Rattle.std.proofs.Common.{◌≡◌, ℕ, ◌+◌, List, [], ◌∷◌, ◌++◌, length, drop, Bool, true, false, Option, Some, None, refl, sym, ap, ◌∙◌, append_assoc, append-nil}
+-- Where what is told of bytes leads to: the world is that of the run of the events that were handled, and what
+-- is printed is what its history gained.
+use Rattle.std.proofs.Common.{◌≡◌, ◌≢◌, ℕ, ◌+◌, List, [], ◌∷◌, ◌++◌, length, drop, Bool, true, false, Option, Some, None, refl, sym, ap, ◌∙◌, append_assoc, append-nil}
 use Rattle.std.specs.Prelude.{◌==◌, nat_le, if◌then◌else◌, Result, Ok, Err}
 use Rattle.std.proofs.Math.Seq.{drop-append_seam}
 use Rattle.list_facts.proofs.Cases.{either}
 use Rattle.rec_id.specs.declared.event.Event.{Event}
 use Rattle.view_config.specs.Limits.{line_limit}
 use Rattle.io_edges.specs.declared.status.Status.{Status}
-use Rattle.io_edges.specs.declared.status.Status.TheVariants.{BadLine, Limit}
+use Rattle.io_edges.specs.declared.status.Status.TheVariants.{Done, BadLine, Limit}
 use Rattle.lazy_rules.specs.WorldState.{WorldState}
 use Rattle.lazy_rules.specs.WorldRules.{run}
 use Rattle.lazylog_trace.specs.declared.script.Command.{Command}
-use Rattle.lazylog_trace.specs.Doing.{Done, did, handled, events_of}
-use Rattle.lazylog_trace.specs.Output.{Reading, Told, goes_on, stops, lines_limit, command_told, said_told, line_told, long_told, byte_told, behind, further_from, told, end_told, script_told}
+use Rattle.lazylog_trace.specs.Doing.{LedTo, did, handled, events_of}
+use Rattle.lazylog_trace.specs.Output.{Reading, Told, goes_on, stops, lines_limit, command_told, said_told, line_done, long_told, byte_told, behind, further_from, told, end_told, script_told}
 use Rattle.lazylog_trace.specs.Printed.{Prints}
 use Rattle.lazylog_trace.specs.Script.{command_of}
 use Rattle.log_safety.proofs.Runs.{run_append}
@@ -24,26 +24,29 @@ pub record Follows (r : Reading) (t : Told) : Type 0 where
   pub leads : (next : Reading) → t.now ≡ Ok next → next.world ≡ run t.events r.world
   pub growth : List Event
   pub grew : (run t.events r.world).history ≡ r.world.history ++ growth
-  pub prints : Prints t.text growth
+  pub prints : Prints r.world t.events t.text growth
+  pub not_done : (status : Status) → t.now ≡ Err status → status ≢ Done
 
 goes_follows : (r next : Reading) → next.world ≡ r.world → Follows r (goes_on next)
 goes_follows r next same = record {
   leads = λ later e. let is : later ≡ next = cc in ap (λ (x : Reading). x.world) is ∙ same;
   growth = [];
   grew = sym (append-nil r.world.history);
-  prints = prints_nothing;
+  prints = prints_nothing r.world [];
+  not_done = λ status e. cc;
 }
 
-pub stops_follows : (r : Reading) (status : Status) → Follows r (stops status)
-stops_follows r status = record {
-  leads = λ next e. let wrong : Err status ≡ Ok next = e in cc;
+stops_follows : (r : Reading) (given : Status) → given ≢ Done → Follows r (stops given)
+stops_follows r given other = record {
+  leads = λ next e. let wrong : Err given ≡ Ok next = e in cc;
   growth = [];
   grew = sym (append-nil r.world.history);
-  prints = prints_nothing;
+  prints = prints_nothing r.world [];
+  not_done = λ status e is. let same : given ≡ status = cc in other (same ∙ is);
 }
 
 module _ (r : Reading) (command : Command) where
-  abbrev done : Done
+  abbrev done : LedTo
   done = did r.world (events_of command)
 
   done_is : done.world ≡ run (handled r.world (events_of command)) r.world
@@ -65,32 +68,40 @@ module _ (r : Reading) (command : Command) where
       let is : record { world = done.world; lines = r.lines + 1; line = [] } ≡ next = cc in
       sym (ap (λ (x : Reading). x.world) is) ∙ done_is
 
+  abbrev ending : Bool → Result Reading Status
+  ending b = if b then Err (Limit (r.lines + 1)) else Ok (record { world = done.world; lines = r.lines + 1; line = [] })
+
+  command_stops : (status : Status) (b : Bool) → ending b ≡ Err status → status ≢ Done
+  command_stops status true e is = let same : Limit (r.lines + 1) ≡ status = cc in let wrong : Limit (r.lines + 1) ≡ Done = same ∙ is in cc
+  command_stops status false e is = let wrong : Ok (record { world = done.world; lines = r.lines + 1; line = [] }) ≡ Err status = e in cc
+
   command_follows : Follows r (command_told r command done)
   command_follows = record {
     leads = λ next e. command_leads next done.spent e;
     growth = gained;
     grew = gained_is;
-    prints = prints_command r.world command gained;
+    prints = prints_command r.world (handled r.world (events_of command)) command gained;
+    not_done = λ status e. command_stops status done.spent e;
   }
 
 said_follows : (r : Reading) (says : Option Command) → Follows r (said_told r says)
-said_follows r None = stops_follows r (BadLine (r.lines + 1))
+said_follows r None = stops_follows r (BadLine (r.lines + 1)) (λ e. cc)
 said_follows r (Some command) = command_follows r command
 
-pub line_follows : (r : Reading) → Follows r (line_told r)
-line_follows r = either (Follows r) (r.lines == lines_limit) (stops (Limit (lines_limit + 1))) (said_told r (command_of r.line)) (λ e. stops_follows r (Limit (lines_limit + 1))) (λ e. said_follows r (command_of r.line))
+pub line_follows : (r : Reading) → Follows r (line_done r)
+line_follows r = either (Follows r) (r.lines == lines_limit) (stops (Limit (lines_limit + 1))) (said_told r (command_of r.line)) (λ e. stops_follows r (Limit (lines_limit + 1)) (λ e. cc)) (λ e. said_follows r (command_of r.line))
 
 pub long_follows : (r : Reading) → Follows r (long_told r)
-long_follows r = either (Follows r) (r.lines == lines_limit) (stops (Limit (lines_limit + 1))) (stops (BadLine (r.lines + 1))) (λ e. stops_follows r (Limit (lines_limit + 1))) (λ e. stops_follows r (BadLine (r.lines + 1)))
+long_follows r = either (Follows r) (r.lines == lines_limit) (stops (Limit (lines_limit + 1))) (stops (BadLine (r.lines + 1))) (λ e. stops_follows r (Limit (lines_limit + 1)) (λ e. cc)) (λ e. stops_follows r (BadLine (r.lines + 1)) (λ e. cc))
 
 byte_follows : (r : Reading) (byte : ℕ) → Follows r (byte_told r byte)
 byte_follows r byte =
-    either (Follows r) (byte == 10) (line_told r) (if nat_le (line_limit r.world.shape.edition) (length r.line) then long_told r else goes_on (record r { line = r.line ++ byte ∷ [] }))
+    either (Follows r) (byte == 10) (line_done r) (if nat_le (line_limit r.world.shape.edition) (length r.line) then long_told r else goes_on (record r { line = r.line ++ byte ∷ [] }))
     (λ e. line_follows r)
     (λ e. either (Follows r) (nat_le (line_limit r.world.shape.edition) (length r.line)) (long_told r) (goes_on (record r { line = r.line ++ byte ∷ [] })) (λ f. long_follows r) (λ f. goes_follows r (record r { line = r.line ++ byte ∷ [] }) refl))
 
 pub end_follows : (r : Reading) → Follows r (end_told r)
-end_follows r = either (Follows r) (length r.line == 0) (goes_on r) (line_told r) (λ e. goes_follows r r refl) (λ e. line_follows r)
+end_follows r = either (Follows r) (length r.line == 0) (goes_on r) (line_done r) (λ e. goes_follows r r refl) (λ e. line_follows r)
 
 pub behind_follows : (r now : Reading) (t next : Told) → t.now ≡ Ok now → Follows r t → Follows now next → Follows r (behind t next)
 behind_follows r now t next on f g =
@@ -102,7 +113,8 @@ behind_follows r now t next on f g =
       grew =
           ap (λ (w : WorldState). w.history) both ∙ g.grew ∙ ap (λ (w : WorldState). w.history ++ g.growth) world
           ∙ ap (λ (h : List Event). h ++ g.growth) f.grew ∙ append_assoc r.world.history f.growth g.growth;
-      prints = prints_append t.text next.text f.growth g.growth f.prints g.prints;
+      prints = prints_append r.world now.world t.events next.events world t.text next.text f.growth g.growth f.prints g.prints;
+      not_done = g.not_done;
     }
 
 further_follows : (r : Reading) (t : Told) (more : Reading → Told) → Follows r t → ((x : Reading) → Follows x (more x)) → (n : Result Reading Status) → t.now ≡ n → Follows r (further_from t n more)

@@ -10,5 +10,5 @@ pub mod Following
 pub mod LineTells
 pub mod ByteTells
 pub mod ScriptTells
-pub mod TraceTells
 pub mod Showing
+pub mod TraceTells

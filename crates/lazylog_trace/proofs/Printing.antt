@@ -1,12 +1,16 @@
 -- The events among the lines that are printed.
-use Rattle.std.proofs.Common.{◌≡◌, ℕ, List, [], ◌∷◌, ◌++◌, map, Bool, true, false, Option, Some, None, refl, sym, ap, ◌∙◌}
+use Rattle.std.proofs.Common.{◌≡◌, ℕ, List, [], ◌∷◌, ◌++◌, map, Bool, true, false, Option, Some, None, refl, sym, ap, ◌∙◌, subst, append_assoc}
 use Rattle.std.specs.Prelude.{filter, if◌then◌else◌, nat_lt, Result, Ok, Err}
 use Rattle.std.proofs.lemmas.Grind.{flat_map-append}
 use Rattle.std.proofs.lemmas.List.{map-append}
 use Rattle.std.proofs.lemmas.List.Elements.{filter-append}
-use Rattle.list_facts.specs.Lists.{Each}
+use Rattle.list_facts.specs.Lists.{In, Each}
 use Rattle.list_facts.proofs.Cases.{either}
-use Rattle.list_facts.proofs.Members.{each_append, in_each}
+use Rattle.list_facts.proofs.Fronts.{front_append, front_trans}
+use Rattle.log_safety.proofs.Runs.{run_append}
+use Rattle.lazy_msgs.specs.declared.input.WorldEvent.{WorldEvent}
+use Rattle.lazy_rules.specs.WorldRules.{run}
+use Rattle.list_facts.proofs.Members.{each_append, each_weaker, in_each}
 use Rattle.rec_id.specs.declared.entry.Entry.{Entry}
 use Rattle.rec_id.specs.declared.event.Event.{Event}
 use Rattle.rec_id.specs.declared.event.Event.TheVariants.{Invoke, Acked, Rejected, Begin, Answer, Seen, TrimAsk, TrimDone, Trimmed}
@@ -73,40 +77,59 @@ others_none [] h = refl
 others_none (line ∷ lines) h =
     ap (λ (b : Bool). if b then line ∷ filter is_event_line lines else filter is_event_line lines) h.0 ∙ others_none lines h.1
 
-abbrev IsOwn : List ℕ → Type 0
-IsOwn line = is_event_line line ≡ false → IsOwnLine line
+abbrev IsOwn : WorldState → List WorldEvent → List ℕ → Type 0
+IsOwn start events line = is_event_line line ≡ false → IsOwnLine start events line
 
-own_each : (w : WorldState) (command : Command) → Each IsOwn (own_lines w command)
-own_each w command = in_each IsOwn (own_lines w command) (λ line among other. record { world = w; command = command; among = among })
+own_each : (w : WorldState) (events : List WorldEvent) (command : Command) → Each (IsOwn w events) (own_lines w command)
+own_each w events command = in_each (IsOwn w events) (own_lines w command) (λ line among other. record { passed = []; on_way = record { rest = events; is = refl }; command = command; among = among })
 
-events_each : (events : List Event) → Each IsOwn (event_lines events)
-events_each [] = tt
-events_each (event ∷ events) = (λ other. let wrong : true ≡ false = sym (event_is event) ∙ other in cc, events_each events)
+events_each : (w : WorldState) (events : List WorldEvent) (told : List Event) → Each (IsOwn w events) (event_lines told)
+events_each w events [] = tt
+events_each w events (event ∷ told) = (λ other. let wrong : true ≡ false = sym (event_is event) ∙ other in cc, events_each w events told)
 
-pub prints_nothing : Prints [] []
-prints_nothing = record { lines = []; text_is = refl; events_are = refl; own = tt }
+pub prints_nothing : (w : WorldState) (events : List WorldEvent) → Prints w events [] []
+prints_nothing w events = record { lines = []; text_is = refl; events_are = refl; own = tt }
 
 -- the lines of a command
-pub prints_command : (w : WorldState) (command : Command) (told : List Event) → Prints (printed (own_lines w command ++ event_lines told)) told
-prints_command w command told = record {
+pub prints_command : (w : WorldState) (events : List WorldEvent) (command : Command) (told : List Event) → Prints w events (printed (own_lines w command ++ event_lines told)) told
+prints_command w events command told = record {
   lines = own_lines w command ++ event_lines told;
   text_is = refl;
   events_are =
       filter-append is_event_line (own_lines w command) (event_lines told)
       ∙ ap (λ (lines : List (List ℕ)). lines ++ filter is_event_line (event_lines told)) (others_none (own_lines w command) (own_other w command))
       ∙ events_all told;
-  own = each_append IsOwn (own_lines w command) (event_lines told) (own_each w command) (events_each told);
+  own = each_append (IsOwn w events) (own_lines w command) (event_lines told) (own_each w events command) (events_each w events told);
 }
 
 -- one text behind another
-pub prints_append : (text more : List ℕ) (told later : List Event) → Prints text told → Prints more later → Prints (text ++ more) (told ++ later)
-prints_append text more told later p q = record {
-  lines = p.lines ++ q.lines;
-  text_is = ap (λ (t : List ℕ). t ++ more) p.text_is ∙ ap (λ (t : List ℕ). printed p.lines ++ t) q.text_is ∙ sym (flat_map-append (λ (line : List ℕ). line) p.lines q.lines);
-  events_are =
-      filter-append is_event_line p.lines q.lines
-      ∙ ap (λ (lines : List (List ℕ)). lines ++ filter is_event_line q.lines) p.events_are
-      ∙ ap (λ (lines : List (List ℕ)). event_lines told ++ lines) q.events_are
-      ∙ sym (map-append (λ (event : Event). as_line (event_text event)) told later);
-  own = each_append IsOwn p.lines q.lines p.own q.own;
-}
+module _ (start now : WorldState) (events more : List WorldEvent) (now_is : now ≡ run events start) where
+  own_before : (line : List ℕ) → IsOwn start events line → IsOwn start (events ++ more) line
+  own_before line h other =
+      let own = h other in
+      record { passed = own.passed; on_way = front_trans own.passed events (events ++ more) own.on_way (front_append events more); command = own.command; among = own.among }
+
+  own_behind : (line : List ℕ) → IsOwn now more line → IsOwn start (events ++ more) line
+  own_behind line h other =
+      let own = h other in
+      let way = own.on_way in
+      record {
+        passed = events ++ own.passed;
+        on_way = record { rest = way.rest; is = ap (λ (later : List WorldEvent). events ++ later) way.is ∙ sym (append_assoc events own.passed way.rest) };
+        command = own.command;
+        among = subst (λ (w : WorldState). In line (own_lines w own.command)) (ap (run own.passed) now_is ∙ sym (run_append events own.passed start)) own.among;
+      }
+
+  pub prints_append : (text next : List ℕ) (told later : List Event) → Prints start events text told → Prints now more next later → Prints start (events ++ more) (text ++ next) (told ++ later)
+  prints_append text next told later p q = record {
+    lines = p.lines ++ q.lines;
+    text_is = ap (λ (t : List ℕ). t ++ next) p.text_is ∙ ap (λ (t : List ℕ). printed p.lines ++ t) q.text_is ∙ sym (flat_map-append (λ (line : List ℕ). line) p.lines q.lines);
+    events_are =
+        filter-append is_event_line p.lines q.lines
+        ∙ ap (λ (lines : List (List ℕ)). lines ++ filter is_event_line q.lines) p.events_are
+        ∙ ap (λ (lines : List (List ℕ)). event_lines told ++ lines) q.events_are
+        ∙ sym (map-append (λ (event : Event). as_line (event_text event)) told later);
+    own = each_append (IsOwn start (events ++ more)) p.lines q.lines
+        (each_weaker (IsOwn start events) (IsOwn start (events ++ more)) own_before p.lines p.own)
+        (each_weaker (IsOwn now more) (IsOwn start (events ++ more)) own_behind q.lines q.own);
+  }

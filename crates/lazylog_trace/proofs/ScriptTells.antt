@@ -2,14 +2,15 @@
 use Rattle.std.proofs.Common.{◌≡◌, ◌≢◌, ℕ, List, [], ◌∷◌, ◌++◌, Option, None, Some, refl, sym, ap, ◌∙◌, subst, append_assoc, append-nil}
 use Rattle.std.specs.Prelude.{OnErr, Result, Ok, Err}
 use Rattle.std.specs.Io.KnownBytes.{append_known, prepend_known, IsAtEnd}
-use Rattle.io_edges.specs.Telling.{Stops}
+use Rattle.io_edges.specs.Faults.{Rose}
+use Rattle.io_edges.specs.Telling.{Fails, Stops}
 use Rattle.io_edges.specs.declared.status.Status.{Status}
 use Rattle.io_edges.specs.declared.status.Status.TheVariants.{ReadFault, WriteFault, Memory}
 use Rattle.io_edges.proofs.TellingLemmas.{append_known-append, goes_on as goes_piece, stops_further, stops_within, stops_going}
 use Rattle.lazy_rules.specs.WorldState.{WorldState}
 use Rattle.lazy_rules.specs.WorldRules.{run}
-use Rattle.lazylog_trace.specs.Output.{Reading, Told, behind, byte_told, line_told, further, told, end_told, script_told}
-use Rattle.lazylog_trace.specs.Traced.{FailedIn, HasBytes, Led, RanOf, Tells}
+use Rattle.lazylog_trace.specs.Output.{Reading, Told, behind, byte_told, line_done, further, told, end_told, script_told}
+use Rattle.lazylog_trace.specs.Traced.{FailedIn, HasBytes, Led, RanOf, Tells, source_of}
 use Rattle.log_safety.proofs.Runs.{run_append}
 use Rattle.lazylog_trace.proofs.Following.{told_follows}
 use Rattle.lazylog_trace.proofs.ByteTells.{SoFar, none_yet, told_pieces, tells_further, further_ok, further_err}
@@ -66,6 +67,10 @@ has_left : (had left : Option (List ℕ)) (read : List ℕ) → had ≡ prepend_
 has_left had None read is = subst (λ (h : Option (List ℕ)). HasBytes h (read ++ [])) (sym is) tt
 has_left had (Some rest) read is = subst (λ (h : Option (List ℕ)). HasBytes h (read ++ rest)) (sym is) refl
 
+left_has : (left : Option (List ℕ)) → HasBytes left (left_bytes left)
+left_has None = tt
+left_has (Some rest) = refl
+
 has_all : (had left : Option (List ℕ)) (read : List ℕ) → IsAtEnd left → had ≡ prepend_known read left → HasBytes had read
 has_all had None read ended is = subst (λ (h : Option (List ℕ)). HasBytes h read) (sym is) tt
 has_all had (Some rest) read ended is =
@@ -90,19 +95,20 @@ far_first start left known = record { read = []; had_is = prepend_none left; so_
 
 module _ (start r : Reading) (had left left_now before between : Option (List ℕ)) (far : Far start had left before between r) where
   -- the source failed
-  pub far_fault : {R : Type 0} (x : Status) → x ≡ ReadFault → RanOf {R = R} had start before between r (Err x)
-  far_fault {R = R} x is =
+  pub far_fault : {R : Type 0} (faults faults_now : ℕ) (x : Status) → x ≡ ReadFault → left_now ≡ left → Rose faults faults_now → RanOf {R = R} (source_of had left_now faults faults_now) start before between r (Err x)
+  far_fault {R = R} faults faults_now x is same rose =
       let goes = begins start far.read (left_bytes left) in
       record {
         bytes = far.read ++ left_bytes left;
         has = has_left had left far.read far.had_is;
         ran = record {
           on = tt;
+          ended = tt;
           whole = tt;
           stopped = λ one two three. absurd (one is);
           written = λ one two three. absurd (one is);
           led = λ one two three. absurd (one is);
-          read = λ e. (record { read = far.read; rest = left_bytes left; now = r; bytes_are = refl; on = far.so_far.on }, refl, far.so_far.written);
+          read = λ e. (record { read = far.read; rest = left_bytes left; now = r; bytes_are = refl; left_is = subst (λ (k : Option (List ℕ)). HasBytes k (left_bytes left)) (sym same) (left_has left); rose = rose; on = far.so_far.on }, refl, far.so_far.written);
           failed = λ e. let wrong : ReadFault ≡ WriteFault = let same : x ≡ WriteFault = cc in sym is ∙ same in cc;
           front = stops_going (goes_piece (told start far.read).text goes.is far.so_far.written);
         };
@@ -134,16 +140,16 @@ module _ (start r : Reading) (had left left_now before between : Option (List �
             bytes_are = append_assoc far.read piece more ∙ ap (λ (bs : List ℕ). far.read ++ bs) k.place.bytes_are ∙ sym (append_assoc far.read k.place.read k.place.rest);
             ends = k.place.ends;
             on = ap (λ (t : Told). t.now) pieces ∙ k.place.on;
-            front = subst (λ (known : Option (List ℕ)). Stops known after (line_told k.place.now).text) written k.place.front;
+            front = subst (λ (known : Option (List ℕ)). Fails known after (line_done k.place.now).text) written k.place.front;
           };
           world_is = k.world_is;
         }
 
-    pub far_stop : {R : Type 0} (status : Status) → status ≢ ReadFault → Tells {R = R} (told r piece) between after now (Err status)
+    pub far_stop : {R : Type 0} (faults faults_now : ℕ) (status : Status) → status ≢ ReadFault → Tells {R = R} (told r piece) between after now (Err status)
         → (status ≢ WriteFault → status ≢ Memory → now.world ≡ run (told r piece).events r.world)
         → ((more : List ℕ) → ◌≡◌ {A = Result R Status} (Err status) (Err WriteFault) → FailedIn r (piece ++ more) between after now.world)
-        → RanOf {R = R} had start before after now (Err status)
-    far_stop {R = R} status other t led failed =
+        → RanOf {R = R} (source_of had left_now faults faults_now) start before after now (Err status)
+    far_stop {R = R} faults faults_now status other t led failed =
         let both = tells_further {R = R} start r now far.read piece before between after (Err status) far.so_far t in
         let rest = left_bytes left_now in
         let goes = begins start (far.read ++ piece) rest in
@@ -156,6 +162,7 @@ module _ (start r : Reading) (had left left_now before between : Option (List �
           has = has_left had left_now (far.read ++ piece) had_now;
           ran = record {
             on = tt;
+            ended = tt;
             whole = tt;
             stopped = λ one two three. ap (λ (x : Told). x.now) (whole (both.stopped two three)) ∙ both.stopped two three;
             written = λ one two three. both.written two three ∙ ap (λ (x : Told). append_known before x.text) (sym (whole (both.stopped two three)));
@@ -187,12 +194,13 @@ module _ (start r : Reading) (had left left_now before between : Option (List �
     had_all : HasBytes had far.read
     had_all = has_all had left_now far.read ended (far.had_is ∙ ap (prepend_known far.read) (read ∙ sym (prepend_none left_now)))
 
-    pub far_end : {R : Type 0} (outcome : Result R Status) → outcome ≢ Err ReadFault → Tells {R = R} (end_told r) between after now outcome → Led {R = R} (end_told r).events r.world now.world outcome → OnErr outcome (end_told r ≡ line_told r) → RanOf {R = R} had start before after now outcome
-    far_end (Ok x) other t led line = record {
+    pub far_end : {R : Type 0} (faults faults_now : ℕ) (outcome : Result R Status) → outcome ≢ Err ReadFault → Tells {R = R} (end_told r) between after now outcome → Led {R = R} (end_told r).events r.world now.world outcome → OnErr outcome (end_told r ≡ line_done r) → RanOf {R = R} (source_of had left_now faults faults_now) start before after now outcome
+    far_end faults faults_now (Ok x) other t led line = record {
       bytes = far.read;
       has = had_all;
       ran = record {
         on = ap (λ (y : Told). y.now) script_is ∙ t.on;
+        ended = ended;
         whole = text_after t.whole;
         stopped = tt;
         written = tt;
@@ -202,11 +210,12 @@ module _ (start r : Reading) (had left left_now before between : Option (List �
         front = end_front t.front;
       };
     }
-    far_end (Err status) other t led line = record {
+    far_end faults faults_now (Err status) other t led line = record {
       bytes = far.read;
       has = had_all;
       ran = record {
         on = tt;
+        ended = tt;
         whole = tt;
         stopped = λ one two three. ap (λ (y : Told). y.now) script_is ∙ t.stopped two three;
         written = λ one two three. text_after (t.written two three);
@@ -224,7 +233,7 @@ module _ (start r : Reading) (had left left_now before between : Option (List �
             bytes_are = sym (append-nil far.read);
             ends = tt;
             on = far.so_far.on;
-            front = subst (λ (k : Option (List ℕ)). Stops k after (line_told r).text) far.so_far.written (subst (λ (x : Told). Stops between after x.text) line t.front);
+            front = subst (λ (k : Option (List ℕ)). Fails k after (line_done r).text) far.so_far.written (subst (λ (x : Told). Fails between after x.text) line (t.failed e));
           };
           world_is = led.leads (λ f. let wrong : Err WriteFault ≡ Err Memory = sym e ∙ f in cc) ∙ ap (λ (x : Told). run x.events r.world) line;
         };

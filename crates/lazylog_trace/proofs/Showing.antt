@@ -2,34 +2,33 @@
 use Rattle.std.proofs.Common.{◌≡◌, ◌≢◌, ℕ, List, [], ◌++◌, Option, inl, inr, refl, sym, ap, ◌∙◌, subst, append-nil}
 use Rattle.std.specs.Prelude.{Err}
 use Rattle.std.specs.Io.KnownBytes.{append_known}
-use Rattle.io_edges.specs.Telling.{Stops}
+use Rattle.io_edges.specs.Telling.{Fails, Stops}
 use Rattle.io_edges.specs.declared.status.Status.{Status}
 use Rattle.io_edges.specs.declared.status.Status.TheVariants.{Done, Usage, BadLine, ReadFault, WriteFault, Memory, Limit}
 use Rattle.io_edges.proofs.TellingLemmas.{goes_on as goes_piece, stops_further, stops_going, stops_within}
 use Rattle.rec_id.specs.declared.event.Event.{Event}
 use Rattle.lazy_msgs.specs.declared.input.WorldEvent.{WorldEvent}
-use Rattle.lazy_rules.specs.WorldState.{WorldState}
 use Rattle.lazy_rules.specs.WorldRules.{run}
-use Rattle.lazylog_trace.specs.Output.{Reading, Told, told, line_told, script_told, behind, closing}
+use Rattle.lazylog_trace.specs.Output.{Reading, Told, told, line_done, script_told, behind, closing}
 use Rattle.lazylog_trace.specs.Printed.{Prints, Shows}
-use Rattle.lazylog_trace.specs.Traced.{Traced, TracedTo}
+use Rattle.lazylog_trace.specs.Traced.{Source, Traced}
 use Rattle.lazylog_trace.proofs.Following.{Follows, behind_follows, line_follows, script_follows, told_follows}
 
-module _ (start : Reading) (fresh : start.world.history ≡ []) (bytes : List ℕ) (before after : Option (List ℕ)) (events : List WorldEvent) where
+module _ (source : Source) (start : Reading) (fresh : start.world.history ≡ []) (bytes : List ℕ) (before after : Option (List ℕ)) (events : List WorldEvent) where
   abbrev history : List Event
   history = (run events start.world).history
 
   -- what is told prints the history of its events
-  prints : (t : Told) → Follows start t → events ≡ t.events → Prints t.text history
+  prints : (t : Told) → Follows start t → events ≡ t.events → Prints start.world events t.text history
   prints t f is =
       let grown : history ≡ f.growth = ap (λ (es : List WorldEvent). (run es start.world).history) is ∙ f.grew ∙ ap (λ (h : List Event). h ++ f.growth) fresh in
-      subst (λ (h : List Event). Prints t.text h) (sym grown) f.prints
+      subst (λ (es : List WorldEvent). Prints start.world es t.text history) (sym is) (subst (λ (h : List Event). Prints start.world t.events t.text h) (sym grown) f.prints)
 
   whole_front : (text : List ℕ) → after ≡ append_known before text → Stops before after text
   whole_front text written = stops_going (goes_piece text (sym (append-nil text)) written)
 
   -- the script was read to its end, or to a line that stops it
-  at_end : (status : Status) → status ≢ ReadFault → status ≢ WriteFault → status ≢ Memory → Traced start bytes before after events status → Shows before after history status
+  at_end : (status : Status) → status ≢ ReadFault → status ≢ WriteFault → status ≢ Memory → Traced source start bytes before after events status → Shows start.world events before after history status
   at_end status one two three t = record {
     text = (script_told start bytes).text;
     last = (script_told start bytes).now;
@@ -39,10 +38,10 @@ module _ (start : Reading) (fresh : start.world.history ≡ []) (bytes : List �
   }
 
   -- a front of the last piece of a text was written, and all before it
-  parts_front : (first last : List ℕ) → Stops (append_known before first) after last → Stops before after (first ++ last)
-  parts_front first last front = stops_further (goes_piece first refl refl) front
+  parts_front : (first last : List ℕ) → Fails (append_known before first) after last → Stops before after (first ++ last)
+  parts_front first last front = stops_further (goes_piece first refl refl) (stops_going front.goes)
 
-  pub shown : (status : Status) → status ≢ Memory → Traced start bytes before after events status → Shows before after history status
+  pub shown : (status : Status) → status ≢ Memory → Traced source start bytes before after events status → Shows start.world events before after history status
   shown Done other t = at_end Done (λ e. cc) (λ e. cc) (λ e. cc) t
   shown Usage other t = at_end Usage (λ e. cc) (λ e. cc) (λ e. cc) t
   shown (BadLine n) other t = at_end (BadLine n) (λ e. cc) (λ e. cc) (λ e. cc) t
@@ -59,11 +58,11 @@ module _ (start : Reading) (fresh : start.world.history ≡ []) (bytes : List �
       }
   shown WriteFault other t = elim (t.failed refl) [
     | inl line ↦ record {
-      text = (told start line.0.read).text ++ (line_told line.0.now).text;
+      text = (told start line.0.read).text ++ (line_done line.0.now).text;
       last = Err WriteFault;
-      prints = prints (behind (told start line.0.read) (line_told line.0.now)) (behind_follows start line.0.now (told start line.0.read) (line_told line.0.now) line.0.on (told_follows start line.0.read) (line_follows line.0.now)) line.1;
+      prints = prints (behind (told start line.0.read) (line_done line.0.now)) (behind_follows start line.0.now (told start line.0.read) (line_done line.0.now) line.0.on (told_follows start line.0.read) (line_follows line.0.now)) line.1;
       whole = λ e. absurd (e refl);
-      front = stops_within [] refl (parts_front (told start line.0.read).text (line_told line.0.now).text line.0.front);
+      front = stops_within [] refl (parts_front (told start line.0.read).text (line_done line.0.now).text line.0.front);
     }
     | inr last ↦ elim last [
       | inl whole ↦ record {
@@ -82,7 +81,3 @@ module _ (start : Reading) (fresh : start.world.history ≡ []) (bytes : List �
       }
     ]
   ]
-
-pub shows_to : (had : Option (List ℕ)) (start : Reading) (before after : Option (List ℕ)) (world : WorldState) (status : Status) → start.world.history ≡ [] → status ≢ Memory → TracedTo had start before after world status → Shows before after world.history status
-shows_to had start before after world status fresh other t =
-    subst (λ (w : WorldState). Shows before after w.history status) (sym (t.led other)) (shown start fresh t.bytes before after t.events status other t.traced)

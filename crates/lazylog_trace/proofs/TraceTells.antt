@@ -1,77 +1,97 @@
 -- What is told of a whole trace.
 use Rattle.std.proofs.Common.{◌≡◌, ◌≢◌, ◌⊎◌, ℕ, List, [], ◌++◌, Option, None, Some, inl, inr, refl, sym, ap, ◌∙◌, subst}
 use Rattle.std.specs.Prelude.{Result, Ok, Err}
-use Rattle.std.specs.Io.KnownBytes.{append_known}
-use Rattle.io_edges.specs.Telling.{Stops}
+use Rattle.std.specs.Io.KnownBytes.{append_known, IsAtEnd}
+use Rattle.io_edges.specs.Telling.{Fails, Stops}
 use Rattle.io_edges.specs.declared.status.Status.{Status}
 use Rattle.io_edges.specs.declared.status.Status.TheVariants.{Done, Usage, BadLine, ReadFault, WriteFault, Memory, Limit}
 use Rattle.io_edges.proofs.TellingLemmas.{append_known-append, goes_on as goes_piece, stops_further, stops_within, stops_same}
 use Rattle.view_config.specs.Shape.{Dimensions}
 use Rattle.lazy_msgs.specs.declared.input.WorldEvent.{WorldEvent}
-use Rattle.lazy_rules.specs.WorldState.{WorldState}
+use Rattle.lazy_rules.specs.WorldState.{WorldState, first_world}
 use Rattle.lazy_rules.specs.WorldRules.{run}
 use Rattle.lazy_core.specs.declared.trail.Trail.{Trail}
 use Rattle.lazy_core.specs.Filled.{IsFilled}
-use Rattle.lazylog_trace.specs.Output.{Reading, first_reading, told, line_told, script_told, closing, closing_line, last_line, status_of, stop_text, out, out_read}
-use Rattle.lazylog_trace.specs.Traced.{Closed, FailedIn, HasBytes, IsTrace, Ran, RanOf, ReadOf, Traced, TracedTo}
+use Rattle.lazylog_trace.specs.Output.{Reading, first_reading, told, line_done, script_told, closing, closing_line, last_line, status_of, stop_text, out, out_read}
+use Rattle.lazylog_trace.specs.Traced.{Closed, FailedIn, HasBytes, IsTrace, Ran, RanOf, ReadOf, Source, Traced, TracedTo}
+use Rattle.lazylog_trace.specs.Printed.{Shows}
+use Rattle.lazylog_trace.proofs.Showing.{shown}
+use Rattle.rec_id.specs.declared.event.Event.{Event}
 use Rattle.log_safety.proofs.Runs.{run_append}
 use Rattle.lazylog_trace.proofs.Following.{told_follows, script_follows}
 
 -- a trace of these bytes: the events that it handled, and the world that they led to
-record Course (start : Reading) (bytes : List ℕ) (before after : Option (List ℕ)) (world : WorldState) (status : Status) : Type 0 where
+record Course (source : Source) (start : Reading) (bytes : List ℕ) (before after : Option (List ℕ)) (world : WorldState) (status : Status) : Type 0 where
   events : List WorldEvent
-  traced : Traced start bytes before after events status
+  traced : Traced source start bytes before after events status
   led : status ≢ Memory → world ≡ run events start.world
 
-module _ (start : Reading) (bytes : List ℕ) (before : Option (List ℕ)) where
+module _ (source : Source) (start : Reading) (bytes : List ℕ) (before : Option (List ℕ)) where
   -- want of memory, wherever it came
-  memory_only : (after : Option (List ℕ)) (events : List WorldEvent) → Stops before after (out start bytes) ⊎ ((k : ReadOf start bytes) × Stops before after (out_read start k.read)) → Traced start bytes before after events Memory
+  memory_only : (after : Option (List ℕ)) (events : List WorldEvent) → Stops before after (out start bytes) ⊎ ((k : ReadOf source start bytes) × Stops before after (out_read start k.read)) → Traced source start bytes before after events Memory
   memory_only after events front = record {
     ended = λ one two three. absurd (three refl);
     whole = λ one two three. absurd (three refl);
     handled = λ one two three. absurd (three refl);
+    read_whole = λ e. let wrong : Memory ≡ Done = e in cc;
     read = λ e. let wrong : Memory ≡ ReadFault = e in cc;
     failed = λ e. let wrong : Memory ≡ WriteFault = e in cc;
     front = front;
   }
 
-  pub then_memory : (after : Option (List ℕ)) (events : List WorldEvent) (status : Status) → Traced start bytes before after events status → Traced start bytes before after events Memory
+  pub then_memory : (after : Option (List ℕ)) (events : List WorldEvent) (status : Status) → Traced source start bytes before after events status → Traced source start bytes before after events Memory
   then_memory after events status t = memory_only after events t.front
 
-module _ (start : Reading) (bytes : List ℕ) (before between after : Option (List ℕ)) (now : Reading) where
+module _ (source : Source) (start : Reading) (bytes : List ℕ) (before between after : Option (List ℕ)) (now : Reading) where
   -- a text, and the last line behind it
   two_parts : (first last : List ℕ) → between ≡ append_known before first → after ≡ append_known between last → after ≡ append_known before (first ++ last)
   two_parts first last one two = two ∙ ap (λ (k : Option (List ℕ)). append_known k last) one ∙ append_known-append before first last
 
   -- all of the script was handled: it was read to its end, or to the line that stops it
   module _ (end_is : Result Reading Status) (is : (script_told start bytes).now ≡ end_is) (written : between ≡ append_known before (script_told start bytes).text) (world : now.world ≡ run (script_told start bytes).events start.world)
-      (line : Option (List ℕ)) (line_is : closing_line line ≡ closing end_is) (given : Status) (given_is : given ≡ status_of end_is) (no_fault : given ≢ ReadFault) (status : Status) (closed : Closed line given between after status) where
+      (line : Option (List ℕ)) (line_is : closing_line line ≡ closing end_is) (given : Status) (given_is : given ≡ status_of end_is) (no_fault : given ≢ ReadFault) (no_write : given ≢ WriteFault) (ended : given ≡ Done → IsAtEnd source.left) (status : Status) (closed : Closed line given between after status) where
     last_is : closing_line line ≡ closing (script_told start bytes).now
     last_is = line_is ∙ ap (λ (n : Result Reading Status). closing n) (sym is)
 
-    whole_course : Course start bytes before after now.world status
+    closing_fails : status ≡ WriteFault → Fails between after (closing_line line)
+    closing_fails e = elim closed.outcome [
+      | inl done ↦ absurd (no_write (sym done.0 ∙ e))
+      | inr other ↦ elim other [
+        | inl f ↦ f.1
+        | inr f ↦ let wrong : Memory ≡ WriteFault = sym f ∙ e in cc
+      ]
+    ]
+
+    whole_course : Course source start bytes before after now.world status
     whole_course = record {
       events = (script_told start bytes).events;
       traced = record {
         ended = λ one two three. elim closed.outcome [
           | inl done ↦ done.0 ∙ given_is ∙ sym (ap (status_of {R = Reading}) is)
-          | inr other ↦ elim other [ inl e ↦ absurd (two e) | inr e ↦ absurd (three e) ]
+          | inr other ↦ elim other [ inl e ↦ absurd (two e.0) | inr e ↦ absurd (three e) ]
         ];
         whole = λ one two three. elim closed.outcome [
           | inl done ↦ two_parts (script_told start bytes).text (closing_line line) written done.1 ∙ ap (λ (last : List ℕ). append_known before ((script_told start bytes).text ++ last)) last_is
-          | inr other ↦ elim other [ inl e ↦ absurd (two e) | inr e ↦ absurd (three e) ]
+          | inr other ↦ elim other [ inl e ↦ absurd (two e.0) | inr e ↦ absurd (three e) ]
         ];
         handled = λ one two three. refl;
+        read_whole = λ e. elim closed.outcome [
+          | inl done ↦ ended (sym done.0 ∙ e)
+          | inr other ↦ elim other [
+            | inl f ↦ let wrong : WriteFault ≡ Done = sym f.0 ∙ e in cc
+            | inr f ↦ let wrong : Memory ≡ Done = sym f ∙ e in cc
+          ]
+        ];
         read = λ e. elim closed.outcome [
           | inl done ↦ absurd (no_fault (sym done.0 ∙ e))
           | inr other ↦ elim other [
-            | inl f ↦ let wrong : WriteFault ≡ ReadFault = sym f ∙ e in cc
+            | inl f ↦ let wrong : WriteFault ≡ ReadFault = sym f.0 ∙ e in cc
             | inr f ↦ let wrong : Memory ≡ ReadFault = sym f ∙ e in cc
           ]
         ];
         failed = λ e. inr (inl (record {
           handled = refl;
-          front = subst (λ (k : Option (List ℕ)). Stops k after (closing (script_told start bytes).now)) written (subst (λ (last : List ℕ). Stops between after last) last_is closed.front);
+          front = subst (λ (k : Option (List ℕ)). Fails k after (closing (script_told start bytes).now)) written (subst (λ (last : List ℕ). Fails between after last) last_is (closing_fails e));
         }));
         front = inl (stops_further (goes_piece (script_told start bytes).text refl written) (subst (λ (last : List ℕ). Stops between after last) last_is closed.front));
       };
@@ -79,22 +99,23 @@ module _ (start : Reading) (bytes : List ℕ) (before between after : Option (Li
     }
 
   -- the source failed
-  module _ (status : Status) (k : ReadOf start bytes) (k_now : k.now ≡ now) (written : between ≡ append_known before (told start k.read).text) (closed : Closed (stop_text ReadFault) ReadFault between after status) where
-    source_course : Course start bytes before after now.world status
+  module _ (status : Status) (k : ReadOf source start bytes) (k_now : k.now ≡ now) (written : between ≡ append_known before (told start k.read).text) (closed : Closed (stop_text ReadFault) ReadFault between after status) where
+    source_course : Course source start bytes before after now.world status
     source_course = record {
       events = (told start k.read).events;
       traced = record {
         ended = λ one two three. absurd (settled one two three);
         whole = λ one two three. absurd (settled one two three);
         handled = λ one two three. absurd (settled one two three);
+        read_whole = λ e. absurd (settled (λ f. let wrong : Done ≡ ReadFault = sym e ∙ f in cc) (λ f. let wrong : Done ≡ WriteFault = sym e ∙ f in cc) (λ f. let wrong : Done ≡ Memory = sym e ∙ f in cc));
         read = λ e. elim closed.outcome [
           | inl done ↦ (k, refl, two_parts (told start k.read).text (closing (Err ReadFault)) written done.1)
           | inr other ↦ elim other [
-            | inl f ↦ let wrong : WriteFault ≡ ReadFault = sym f ∙ e in cc
+            | inl f ↦ let wrong : WriteFault ≡ ReadFault = sym f.0 ∙ e in cc
             | inr f ↦ let wrong : Memory ≡ ReadFault = sym f ∙ e in cc
           ]
         ];
-        failed = λ e. inr (inr (k, record { handled = refl; front = subst (λ (known : Option (List ℕ)). Stops known after (closing (Err ReadFault))) written closed.front }));
+        failed = λ e. inr (inr (k, record { handled = refl; front = subst (λ (known : Option (List ℕ)). Fails known after (closing (Err ReadFault))) written (closing_fails e) }));
         front = inr (k, stops_further (goes_piece (told start k.read).text refl written) closed.front);
       };
       led = λ e. ap (λ (r : Reading). r.world) (sym k_now) ∙ (told_follows start k.read).leads k.now k.on;
@@ -103,18 +124,28 @@ module _ (start : Reading) (bytes : List ℕ) (before between after : Option (Li
         settled : status ≢ ReadFault → status ≢ WriteFault → status ≢ Memory → ⊥
         settled one two three = elim closed.outcome [
           | inl done ↦ one done.0
-          | inr other ↦ elim other [ inl e ↦ two e | inr e ↦ three e ]
+          | inr other ↦ elim other [ inl e ↦ two e.0 | inr e ↦ three e ]
+        ]
+
+        closing_fails : status ≡ WriteFault → Fails between after (closing (Err ReadFault))
+        closing_fails e = elim closed.outcome [
+          | inl done ↦ let wrong : ReadFault ≡ WriteFault = sym done.0 ∙ e in cc
+          | inr other ↦ elim other [
+            | inl f ↦ f.1
+            | inr f ↦ let wrong : Memory ≡ WriteFault = sym f ∙ e in cc
+          ]
         ]
 
   -- the write of a line failed, so that there is no last line
   module _ (status : Status) (failed : FailedIn start bytes before between now.world) (front : Stops before between (out start bytes)) (same : after ≡ between) (why : (status ≡ WriteFault) ⊎ (status ≡ Memory)) where
-    sink_course : Course start bytes before after now.world status
+    sink_course : Course source start bytes before after now.world status
     sink_course = record {
-      events = (told start failed.place.read).events ++ (line_told failed.place.now).events;
+      events = (told start failed.place.read).events ++ (line_done failed.place.now).events;
       traced = record {
         ended = λ one two three. absurd (settled one two three);
         whole = λ one two three. absurd (settled one two three);
         handled = λ one two three. absurd (settled one two three);
+        read_whole = λ e. absurd (settled (λ f. let wrong : Done ≡ ReadFault = sym e ∙ f in cc) (λ f. let wrong : Done ≡ WriteFault = sym e ∙ f in cc) (λ f. let wrong : Done ≡ Memory = sym e ∙ f in cc));
         read = λ e. elim why [
           | inl f ↦ let wrong : WriteFault ≡ ReadFault = sym f ∙ e in cc
           | inr f ↦ let wrong : Memory ≡ ReadFault = sym f ∙ e in cc
@@ -127,7 +158,7 @@ module _ (start : Reading) (bytes : List ℕ) (before between after : Option (Li
             bytes_are = failed.place.bytes_are;
             ends = failed.place.ends;
             on = failed.place.on;
-            front = subst (λ (known : Option (List ℕ)). Stops (append_known before (told start failed.place.read).text) known (line_told failed.place.now).text) (sym same) failed.place.front;
+            front = subst (λ (known : Option (List ℕ)). Fails (append_known before (told start failed.place.read).text) known (line_done failed.place.now).text) (sym same) failed.place.front;
           },
           refl,
         );
@@ -135,79 +166,98 @@ module _ (start : Reading) (bytes : List ℕ) (before between after : Option (Li
       };
       led = λ e.
           failed.world_is
-          ∙ ap (run (line_told failed.place.now).events) ((told_follows start failed.place.read).leads failed.place.now failed.place.on)
-          ∙ sym (run_append (told start failed.place.read).events (line_told failed.place.now).events start.world);
+          ∙ ap (run (line_done failed.place.now).events) ((told_follows start failed.place.read).leads failed.place.now failed.place.on)
+          ∙ sym (run_append (told start failed.place.read).events (line_done failed.place.now).events start.world);
     }
       where
         settled : status ≢ ReadFault → status ≢ WriteFault → status ≢ Memory → ⊥
         settled one two three = elim why [ inl e ↦ two e | inr e ↦ three e ]
 
   -- there was no memory
-  memory_course : (status : Status) → status ≡ Memory → Stops before after (out start bytes) → Course start bytes before after now.world status
+  memory_course : (status : Status) → status ≡ Memory → Stops before after (out start bytes) → Course source start bytes before after now.world status
   memory_course status is front = record {
     events = [];
-    traced = subst (λ (s : Status). Traced start bytes before after [] s) (sym is) (memory_only start bytes before after [] (inl front));
+    traced = subst (λ (s : Status). Traced source start bytes before after [] s) (sym is) (memory_only source start bytes before after [] (inl front));
     led = λ other. absurd (other is);
   }
 
   -- a line stopped it
-  at_line : (given status : Status) → given ≢ ReadFault → given ≢ WriteFault → given ≢ Memory → Ran {R = Unit {0}} start bytes before between now (Err given) → Closed (stop_text given) given between after status → Course start bytes before after now.world status
-  at_line given status one two three ran closed = whole_course (Err given) (ran.stopped one two three) (ran.written one two three) (ran.led one two three) (stop_text given) refl given refl one status closed
+  at_line : (given status : Status) → (given ≡ Done → IsAtEnd source.left) → given ≢ ReadFault → given ≢ WriteFault → given ≢ Memory → Ran {R = Unit {0}} source start bytes before between now (Err given) → Closed (stop_text given) given between after status → Course source start bytes before after now.world status
+  at_line given status ended one two three ran closed = whole_course (Err given) (ran.stopped one two three) (ran.written one two three) (ran.led one two three) (stop_text given) refl given refl one two ended status closed
 
   -- whatever stopped it
-  stopped_course : (given status : Status) → Ran {R = Unit {0}} start bytes before between now (Err given) → Closed (stop_text given) given between after status → Course start bytes before after now.world status
+  stopped_course : (given status : Status) → Ran {R = Unit {0}} source start bytes before between now (Err given) → Closed (stop_text given) given between after status → Course source start bytes before after now.world status
   stopped_course ReadFault status ran closed = let k = ran.read refl in source_course status k.0 k.1 k.2 closed
   stopped_course WriteFault status ran closed = let none = closed.none refl in sink_course status (ran.failed refl) (stops_within (closing (script_told start bytes).now) refl ran.front) none.0 none.1
   stopped_course Memory status ran closed =
       let none = closed.none refl in
       memory_course status (elim none.1 [ inl e ↦ e | inr e ↦ e ])
       (subst (λ (known : Option (List ℕ)). Stops before known (out start bytes)) (sym none.0) (stops_within (closing (script_told start bytes).now) refl ran.front))
-  stopped_course (BadLine n) status ran closed = at_line (BadLine n) status (λ e. cc) (λ e. cc) (λ e. cc) ran closed
-  stopped_course (Limit n) status ran closed = at_line (Limit n) status (λ e. cc) (λ e. cc) (λ e. cc) ran closed
-  stopped_course Done status ran closed = at_line Done status (λ e. cc) (λ e. cc) (λ e. cc) ran closed
-  stopped_course Usage status ran closed = at_line Usage status (λ e. cc) (λ e. cc) (λ e. cc) ran closed
+  stopped_course (BadLine n) status ran closed = at_line (BadLine n) status (λ e. cc) (λ e. cc) (λ e. cc) (λ e. cc) ran closed
+  stopped_course (Limit n) status ran closed = at_line (Limit n) status (λ e. cc) (λ e. cc) (λ e. cc) (λ e. cc) ran closed
+  stopped_course Done status ran closed = absurd ((script_follows start bytes).not_done Done (ran.stopped (λ e. cc) (λ e. cc) (λ e. cc)) refl)
+  stopped_course Usage status ran closed = at_line Usage status (λ e. cc) (λ e. cc) (λ e. cc) (λ e. cc) ran closed
 
-  both_course : (ended : Result (Unit {0}) Status) (status : Status) → Ran start bytes before between now ended → Closed (last_line now.world ended) (status_of ended) between after status → Course start bytes before after now.world status
-  both_course (Ok done) status ran closed = whole_course (Ok now) ran.on ran.whole ((script_follows start bytes).leads now ran.on) (last_line now.world (Ok done)) refl Done refl (λ e. cc) status closed
+  both_course : (ended : Result (Unit {0}) Status) (status : Status) → Ran source start bytes before between now ended → Closed (last_line now.world ended) (status_of ended) between after status → Course source start bytes before after now.world status
+  both_course (Ok done) status ran closed = whole_course (Ok now) ran.on ran.whole ((script_follows start bytes).leads now ran.on) (last_line now.world (Ok done)) refl Done refl (λ e. cc) (λ e. cc) (λ e. ran.ended) status closed
   both_course (Err given) status ran closed = stopped_course given status ran closed
 
 -- what a script led to, and then the last line
-pub both_traced : (had : Option (List ℕ)) (start : Reading) (before between after : Option (List ℕ)) (now : Reading) (ended : Result (Unit {0}) Status) (status : Status) → RanOf had start before between now ended → Closed (last_line now.world ended) (status_of ended) between after status → TracedTo had start before after now.world status
-both_traced had start before between after now ended status r closed =
-    let course = both_course start r.bytes before between after now ended status r.ran closed in
+pub both_traced : (source : Source) (start : Reading) (before between after : Option (List ℕ)) (now : Reading) (ended : Result (Unit {0}) Status) (status : Status) → RanOf source start before between now ended → Closed (last_line now.world ended) (status_of ended) between after status → TracedTo source start before after now.world status
+both_traced source start before between after now ended status r closed =
+    let course = both_course source start r.bytes before between after now ended status r.ran closed in
     record { bytes = r.bytes; has = r.has; events = course.events; traced = course.traced; led = course.led }
 
 -- a trace in a shape
-module _ (shape : Dimensions) (had before after : Option (List ℕ)) (trail_before trail_after : Trail) where
+module _ (shape : Dimensions) (source : Source) (before after : Option (List ℕ)) (trail_before trail_after : Trail) where
   any_bytes : (h : Option (List ℕ)) → (bytes : List ℕ) × HasBytes h bytes
   any_bytes None = ([], tt)
   any_bytes (Some bytes) = (bytes, refl)
 
   -- nothing came, and there was no memory
-  pub memory_trace : after ≡ before → IsTrace shape had before after trail_before trail_after Memory
+  pub memory_trace : after ≡ before → IsTrace shape source before after trail_before trail_after Memory
   memory_trace same =
-      let some = any_bytes had in
+      let some = any_bytes source.had in
       record {
         bytes = some.0;
         has = some.1;
         events = [];
-        traced = memory_only (first_reading shape) some.0 before after [] (inl (subst (λ (known : Option (List ℕ)). Stops before known (out (first_reading shape) some.0)) (sym same) (stops_same before (out (first_reading shape) some.0))));
+        traced = memory_only source (first_reading shape) some.0 before after [] (inl (subst (λ (known : Option (List ℕ)). Stops before known (out (first_reading shape) some.0)) (sym same) (stops_same before (out (first_reading shape) some.0))));
         filled = λ other. absurd (other refl);
+        shows = λ other. absurd (other refl);
       }
 
-  -- the trail was filled, or there was no memory for it
-  pub filled_trace : (world : WorldState) (given status : Status) → TracedTo had (first_reading shape) before after world given → (status ≡ given) ⊎ (status ≡ Memory) → (given ≡ Memory → status ≡ Memory) → (status ≢ Memory → IsFilled world trail_before trail_after) → IsTrace shape had before after trail_before trail_after status
-  filled_trace world given status t (inl is) memory filled = record {
-    bytes = t.bytes;
-    has = t.has;
-    events = t.events;
-    traced = subst (λ (s : Status). Traced (first_reading shape) t.bytes before after t.events s) (sym is) t.traced;
-    filled = λ other. subst (λ (w : WorldState). IsFilled w trail_before trail_after) (t.led (λ e. other (memory e))) (filled other);
-  }
-  filled_trace world given status t (inr is) memory filled = record {
-    bytes = t.bytes;
-    has = t.has;
-    events = t.events;
-    traced = subst (λ (s : Status). Traced (first_reading shape) t.bytes before after t.events s) (sym is) (then_memory (first_reading shape) t.bytes before after t.events given t.traced);
-    filled = λ other. absurd (other is);
-  }
+  module _ (world : WorldState) (given status : Status) (t : TracedTo source (first_reading shape) before after world given) (filled : status ≢ Memory → IsFilled world trail_before trail_after) where
+    -- there was no memory for the trail
+    unfilled_trace : status ≡ Memory → IsTrace shape source before after trail_before trail_after status
+    unfilled_trace is = record {
+      bytes = t.bytes;
+      has = t.has;
+      events = t.events;
+      traced = subst (λ (s : Status). Traced source (first_reading shape) t.bytes before after t.events s) (sym is) (then_memory source (first_reading shape) t.bytes before after t.events given t.traced);
+      filled = λ other. absurd (other is);
+      shows = λ other. absurd (other is);
+    }
+
+    -- the trail was filled
+    same_trace : status ≡ given → (given ≡ Memory → status ≡ Memory) → IsTrace shape source before after trail_before trail_after status
+    same_trace is memory = record {
+      bytes = t.bytes;
+      has = t.has;
+      events = t.events;
+      traced = traced;
+      filled = filled_run;
+      shows = λ other.
+          subst (λ (h : List Event). Shows (first_world shape) t.events before after h status) (sym (filled_run other).history)
+          (shown source (first_reading shape) refl t.bytes before after t.events status other traced);
+    }
+      where
+        traced : Traced source (first_reading shape) t.bytes before after t.events status
+        traced = subst (λ (s : Status). Traced source (first_reading shape) t.bytes before after t.events s) (sym is) t.traced
+
+        filled_run : status ≢ Memory → IsFilled (run t.events (first_world shape)) trail_before trail_after
+        filled_run other = subst (λ (w : WorldState). IsFilled w trail_before trail_after) (t.led (λ e. other (memory e))) (filled other)
+
+    pub filled_trace : (status ≡ given) ⊎ (status ≡ Memory) → (given ≡ Memory → status ≡ Memory) → IsTrace shape source before after trail_before trail_after status
+    filled_trace (inl is) memory = same_trace is memory
+    filled_trace (inr is) memory = unfilled_trace is

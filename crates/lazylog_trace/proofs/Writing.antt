@@ -1,8 +1,8 @@
 -- Lines that are written one after the other.
 use Rattle.std.proofs.Common.{◌≡◌, ℕ, ◌+◌, ◌<◌, suc, List, ◌∷◌, ◌++◌, length, drop, drop-cons, arith, get_or, Option, sym, ap, ◌∙◌}
 use Rattle.std.specs.Io.KnownBytes.{append_known}
-use Rattle.io_edges.specs.Telling.{Goes, Stops}
-use Rattle.io_edges.proofs.TellingLemmas.{goes_on, goes_further, stops_further, stops_within}
+use Rattle.io_edges.specs.Telling.{Fails, Goes, Stops}
+use Rattle.io_edges.proofs.TellingLemmas.{fails_further, fails_within, goes_on, goes_further, stops_further, stops_within}
 use Rattle.lazylog_trace.specs.Output.{printed}
 
 -- the next line, and those behind it
@@ -18,3 +18,6 @@ module _ (before between after : Option (List ℕ)) (lines : List (List ℕ)) (i
 
   pub line_stops : Stops between after line → Stops before after (printed lines)
   line_stops stops = stops_further so_far (stops_within (printed (drop (i + 1) lines)) (printed_at lines i line there is) stops)
+
+  pub line_fails : Fails between after line → Fails before after (printed lines)
+  line_fails fails = fails_further so_far (fails_within (printed (drop (i + 1) lines)) (printed_at lines i line there is) fails)

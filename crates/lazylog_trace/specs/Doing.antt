@@ -33,7 +33,7 @@ refusal_lines (Some refused) = as_line (refused_text refused) ∷ []
 abbrev pub deliveries : ℕ → ℕ → List WorldEvent
 deliveries first count = map DeliverEvent (range_with_len first count)
 
--- at most one more event was accepted, nothing was forgotten, and the shape is the same
+-- at most one more event was accepted, the history isn't shorter, and the shape is the same
 pub record GoesOn (before after_it : WorldState) : Type 0 where
   pub counted : after_it.events ≤ before.events + 1
   pub grew : length before.history ≤ length after_it.history
@@ -48,19 +48,19 @@ abbrev pub is_spent : WorldState → WorldEvent → Bool
 is_spent w event = is_none (refusal w event) && not (is_within (after w event))
 
 -- where a list of events led to: past all of them, or to one that was spent
-pub record Done : Type 0 where
+pub record LedTo : Type 0 where
   pub world : WorldState
   pub spent : Bool
 
-abbrev pub led_to : WorldState → Bool → Done
+abbrev pub led_to : WorldState → Bool → LedTo
 led_to w spent = record { world = w; spent = spent }
 
 -- the events happen in order, refused ones are passed over, up to one that is spent
-abbrev pub did : WorldState → List WorldEvent → Done
+abbrev pub did : WorldState → List WorldEvent → LedTo
 did w [] = led_to w false
 did w (event ∷ events) = if is_spent w event then led_to w true else did (happened w event) events
 
--- those of a list of events that happen: all of them, or those before one that is spent
+-- those of a list of events that are handled: all of them, or those before one that is spent
 abbrev pub handled : WorldState → List WorldEvent → List WorldEvent
 handled w [] = []
 handled w (event ∷ events) = if is_spent w event then [] else event ∷ handled (happened w event) events

@@ -2,15 +2,15 @@ use Rattle.std.specs.Prelude.{ℕ, ◌+◌, List, [], ◌∷◌, ◌++◌, lengt
 use Rattle.view_config.specs.Limits.{line_limit}
 use Rattle.view_config.specs.Shape.{Dimensions}
 use Rattle.io_edges.specs.declared.status.Status.{Status}
-use Rattle.io_edges.specs.declared.status.Status.TheVariants.{Done as DoneStatus, BadLine, Limit, ReadFault}
+use Rattle.io_edges.specs.declared.status.Status.TheVariants.{Done, BadLine, Limit, ReadFault}
 use Rattle.lazy_rules.specs.WorldState.{WorldState, first_world}
 use Rattle.lazy_msgs.specs.declared.input.WorldEvent.{WorldEvent}
-use Rattle.lazylog_trace.specs.Doing.{Done, did, events_of, handled, command_lines, as_line}
+use Rattle.lazylog_trace.specs.Doing.{LedTo, did, events_of, handled, command_lines, as_line}
 use Rattle.lazylog_trace.specs.Script.{command_of}
 use Rattle.log_texts.specs.Texts.{end_text}
 use Rattle.lazylog_trace.specs.declared.script.Command.{Command}
 
--- The output of a trace: what is printed for the bytes of a script, which events happen, and how that ends,
+-- The output of a trace: what is printed for the bytes of a script, which events are tried, and how that ends,
 -- byte by byte, as a stream can keep it.
 
 -- how many lines a script has at most
@@ -26,8 +26,8 @@ pub record Reading : Type 0 where
 abbrev pub first_reading : Dimensions → Reading
 first_reading shape = record { world = first_world shape; lines = 0; line = [] }
 
--- what is printed for some bytes, the events that happen meanwhile, refused ones among them, and where the
--- reading is then, or why it stopped
+-- what is printed for some bytes, the events that are tried meanwhile, refused ones among them, up to one that
+-- is spent, and where the reading is then, or why it stopped
 pub record Told : Type 0 where
   pub text : List ℕ
   pub events : List WorldEvent
@@ -44,7 +44,7 @@ abbrev pub printed : List (List ℕ) → List ℕ
 printed lines = flat_map (λ line. line) lines
 
 -- a command was done
-abbrev pub command_told : Reading → Command → Done → Told
+abbrev pub command_told : Reading → Command → LedTo → Told
 command_told r command done = record {
   text = printed (command_lines r.world command done.world);
   events = handled r.world (events_of command);
@@ -61,8 +61,8 @@ abbrev pub counted : Reading → Told → Told
 counted r told = if r.lines == lines_limit then stops (Limit (lines_limit + 1)) else told
 
 -- the line was read to its end, or is too long
-abbrev pub line_told : Reading → Told
-line_told r = counted r (said_told r (command_of r.line))
+abbrev pub line_done : Reading → Told
+line_done r = counted r (said_told r (command_of r.line))
 
 abbrev pub long_told : Reading → Told
 long_told r = counted r (stops (BadLine (r.lines + 1)))
@@ -70,7 +70,7 @@ long_told r = counted r (stops (BadLine (r.lines + 1)))
 -- a byte was read
 abbrev pub byte_told : Reading → ℕ → Told
 byte_told r byte =
-    if byte == 10 then line_told r
+    if byte == 10 then line_done r
     else (if nat_le (line_limit r.world.shape.edition) (length r.line) then long_told r
     else goes_on (record r { line = r.line ++ byte ∷ [] }))
 
@@ -93,7 +93,7 @@ told r (byte ∷ bytes) = further (byte_told r byte) (λ next. told next bytes)
 
 -- the end was read; a last line without a newline counts where it isn't empty
 abbrev pub end_told : Reading → Told
-end_told r = if length r.line == 0 then goes_on r else line_told r
+end_told r = if length r.line == 0 then goes_on r else line_done r
 
 -- the last line of a script that was stopped, where such a stop has one
 abbrev pub stop_text : Status → Option (List ℕ)
@@ -124,7 +124,7 @@ abbrev pub text_of : Told → List ℕ
 text_of t = t.text ++ closing t.now
 
 abbrev pub status_of : {R : Type 0} → Result R Status → Status
-status_of (Ok r) = DoneStatus
+status_of (Ok r) = Done
 status_of (Err status) = status
 
 -- the whole output: what a script prints, and what its trace ends with

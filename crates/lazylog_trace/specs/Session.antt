@@ -25,10 +25,11 @@ pub record IsUnderWay (s : Session) : Type 0 where
 abbrev pub bytes_left : Session → ℕ
 bytes_left s = (lines_limit - s.lines) * (bytes_limit + 1) + (bytes_limit - length s.line.items)
 
--- why a script stopped that was being read: a write failed only where the sink's count of faults rose,
--- and it wasn't the words or the source
+-- why a script stopped that was being read: a write failed only where the sink's count of faults rose, and
+-- that count rose only where one did; and it wasn't the words or the source
 pub record Stopped {R : Type 0} (before after : ℕ) (outcome : Result R Status) : Type 0 where
   pub write_fault : outcome ≡ Err WriteFault → Rose before after
   pub no_read_fault : outcome ≢ Err ReadFault
   pub no_usage : outcome ≢ Err Usage
   pub grows : before ≤ after
+  pub faultless : outcome ≢ Err WriteFault → after ≡ before

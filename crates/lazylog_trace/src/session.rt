@@ -4,9 +4,9 @@ ghost use Rattle.std.specs.Prelude.{◌≡◌, ◌≢◌, [], ◌++◌, ◌<◌,
 ghost use Rattle.view_config.specs.declared.edition.Mode.TheVariants.{M};
 ghost use Rattle.io_edges.specs.declared.status.Status.TheVariants.{Limit, WriteFault, Memory};
 ghost use Rattle.std.specs.Io.KnownBytes.{append_known};
-ghost use Rattle.io_edges.specs.Telling.{Stops as IsFrontOf};
+ghost use Rattle.io_edges.specs.Telling.{Fails, Stops};
 ghost use Rattle.lazy_rules.specs.WorldRules.{run};
-ghost use Rattle.lazylog_trace.specs.Output.{lines_limit, printed, line_told, long_told, byte_told, told, end_told};
+ghost use Rattle.lazylog_trace.specs.Output.{lines_limit, printed, line_done, long_told, byte_told, told, end_told};
 ghost use Rattle.lazylog_trace.specs.Traced.{FailedIn, Led, Tells};
 ghost use Rattle.lazylog_trace.specs.Doing.{Did, IsInForm, command_lines, did, events_of};
 ghost use Rattle.lazylog_trace.specs.Session.{IsUnderWay, bytes_left, reading_of, Stopped};
@@ -33,7 +33,8 @@ pub struct Session {
 /// Writes one line by one write, where the sink takes it whole.
 pub fn write_line<K: Sink>(sink: &mut K, line: &[u8]) -> Result<(), Status>
     ensures whole { OnOk result (K.written sink.new ≡ append_known (K.written sink.old) line.now) }
-    ensures front { IsFrontOf (K.written sink.old) (K.written sink.new) line.now }
+    ensures front { Stops (K.written sink.old) (K.written sink.new) line.now }
+    ensures fails { result ≡ Err WriteFault → Fails (K.written sink.old) (K.written sink.new) line.now }
     ensures only { IfErr result (λ status. (status ≡ WriteFault) ⊎ (status ≡ Memory)) }
     ensures stopped { Stopped (K.faults sink.old) (K.faults sink.new) result }
 {
@@ -46,7 +47,8 @@ pub fn write_line<K: Sink>(sink: &mut K, line: &[u8]) -> Result<(), Status>
 
 fn write_lines<K: Sink>(sink: &mut K, lines: &TextList) -> Result<(), Status>
     ensures whole { OnOk result (K.written sink.new ≡ append_known (K.written sink.old) (printed lines.now)) }
-    ensures front { IsFrontOf (K.written sink.old) (K.written sink.new) (printed lines.now) }
+    ensures front { Stops (K.written sink.old) (K.written sink.new) (printed lines.now) }
+    ensures fails { result ≡ Err WriteFault → Fails (K.written sink.old) (K.written sink.new) (printed lines.now) }
     ensures only { IfErr result (λ status. (status ≡ WriteFault) ⊎ (status ≡ Memory)) }
     ensures stopped { Stopped (K.faults sink.old) (K.faults sink.new) result }
 {
@@ -69,7 +71,8 @@ fn carry_out<K: Sink>(
     requires form { IsInForm command }
     ensures did { IfOk result (Did (events_of command) world.old world.new) }
     ensures whole { OnOk result (K.written sink.new ≡ append_known (K.written sink.old) (printed (command_lines world.old command world.new))) }
-    ensures front { IsFrontOf (K.written sink.old) (K.written sink.new) (printed (command_lines world.old command (did world.old (events_of command)).world)) }
+    ensures front { Stops (K.written sink.old) (K.written sink.new) (printed (command_lines world.old command (did world.old (events_of command)).world)) }
+    ensures fails { result ≡ Err WriteFault → Fails (K.written sink.old) (K.written sink.new) (printed (command_lines world.old command (did world.old (events_of command)).world)) }
     ensures failed { result ≡ Err WriteFault → world.new ≡ (did world.old (events_of command)).world }
     ensures only { IfErr result (λ status. (status ≡ WriteFault) ⊎ (status ≡ Memory)) }
     ensures counted { world.new.events ≤ world.old.events + 128 }
@@ -138,8 +141,8 @@ impl Session {
         requires { IsUnderWay self.old }
         ensures kept { OnOk result (IsUnderWay self.new) }
         ensures nearer { OnOk result (bytes_left self.new < bytes_left self.old) }
-        ensures tells { Tells (line_told (reading_of self.old)) (K.written sink.old) (K.written sink.new) (reading_of self.new) result }
-        ensures led { Led (line_told (reading_of self.old)).events self.old.world self.new.world result }
+        ensures tells { Tells (line_done (reading_of self.old)) (K.written sink.old) (K.written sink.new) (reading_of self.new) result }
+        ensures led { Led (line_done (reading_of self.old)).events self.old.world self.new.world result }
         ensures stopped { Stopped (K.faults sink.old) (K.faults sink.new) result }
     {
         let number = self.count_line()?;
@@ -203,7 +206,7 @@ impl Session {
         requires { IsUnderWay self.old }
         ensures tells { Tells (end_told (reading_of self.old)) (K.written sink.old) (K.written sink.new) (reading_of self.new) result }
         ensures led { Led (end_told (reading_of self.old)).events self.old.world self.new.world result }
-        ensures line { OnErr result (end_told (reading_of self.old) ≡ line_told (reading_of self.old)) }
+        ensures line { OnErr result (end_told (reading_of self.old) ≡ line_done (reading_of self.old)) }
         ensures stopped { Stopped (K.faults sink.old) (K.faults sink.new) result }
     {
         if self.line.len() == 0 {

@@ -2,12 +2,11 @@
 
 ghost use Rattle.std.specs.Prelude.{◌≡◌, ◌≢◌, ◌≤◌, ◌⊎◌, None, IfOk, IsOk, IfErr, OnOk, Err, codes};
 ghost use Rattle.std.specs.Io.KnownBytes.{append_known};
-ghost use Rattle.io_edges.specs.Telling.{Stops as IsFrontOf};
+ghost use Rattle.io_edges.specs.Telling.{Fails, Stops};
 ghost use Rattle.lazylog_trace.specs.Doing.{as_line};
 ghost use Rattle.lazy_core.specs.Filled.{IsFilled};
 ghost use Rattle.lazylog_trace.specs.Output.{closing_line, last_line, status_of};
-ghost use Rattle.lazylog_trace.specs.Printed.{Shows};
-ghost use Rattle.lazylog_trace.specs.Traced.{Closed, IsTrace, RanOf, TracedTo};
+ghost use Rattle.lazylog_trace.specs.Traced.{Closed, IsTrace, RanOf, TracedTo, source_of};
 ghost use Rattle.view_config.specs.declared.edition.Mode.TheVariants.{M};
 ghost use Rattle.io_edges.specs.Faults.{Rose};
 ghost use Rattle.io_edges.specs.declared.status.Status.TheVariants.{Usage, ReadFault, WriteFault, Memory};
@@ -41,7 +40,9 @@ fn run_script<S: Source, K: Sink>(
     ensures write_fault { result ≡ Err WriteFault → Rose (K.faults sink.old) (K.faults sink.new) }
     ensures grows { K.faults sink.old ≤ K.faults sink.new }
     ensures source_grows { S.faults source.old ≤ S.faults source.new }
-    ensures ran { RanOf (S.left source.old) (reading_of session.old) (K.written sink.old) (K.written sink.new) (reading_of session.new) result }
+    ensures sink_faultless { result ≢ Err WriteFault → K.faults sink.new ≡ K.faults sink.old }
+    ensures source_faultless { result ≢ Err ReadFault → S.faults source.new ≡ S.faults source.old }
+    ensures ran { RanOf (source_of (S.left source.old) (S.left source.new) (S.faults source.old) (S.faults source.new)) (reading_of session.old) (K.written sink.old) (K.written sink.new) (reading_of session.new) result }
 {
     let mut piece = [0u8; PIECE];
     loop {
@@ -60,7 +61,8 @@ fn run_script<S: Source, K: Sink>(
 
 fn write_text<K: Sink>(sink: &mut K, mut text: Text) -> Result<(), Status>
     ensures whole { OnOk result (K.written sink.new ≡ append_known (K.written sink.old) (as_line text)) }
-    ensures front { IsFrontOf (K.written sink.old) (K.written sink.new) (as_line text) }
+    ensures front { Stops (K.written sink.old) (K.written sink.new) (as_line text) }
+    ensures fails { result ≡ Err WriteFault → Fails (K.written sink.old) (K.written sink.new) (as_line text) }
     ensures only { IfErr result (λ status. (status ≡ WriteFault) ⊎ (status ≡ Memory)) }
     ensures stopped { Stopped (K.faults sink.old) (K.faults sink.new) result }
 {
@@ -89,7 +91,8 @@ fn last_line(
 
 fn write_last<K: Sink>(sink: &mut K, line: Option<Text>) -> Result<(), Status>
     ensures whole { OnOk result (K.written sink.new ≡ append_known (K.written sink.old) (closing_line line)) }
-    ensures front { IsFrontOf (K.written sink.old) (K.written sink.new) (closing_line line) }
+    ensures front { Stops (K.written sink.old) (K.written sink.new) (closing_line line) }
+    ensures fails { result ≡ Err WriteFault → Fails (K.written sink.old) (K.written sink.new) (closing_line line) }
     ensures none { line ≡ None → (K.written sink.new ≡ K.written sink.old) × IsOk result }
     ensures only { IfErr result (λ status. (status ≡ WriteFault) ⊎ (status ≡ Memory)) }
     ensures stopped { Stopped (K.faults sink.old) (K.faults sink.new) result }
@@ -106,6 +109,7 @@ fn close<K: Sink>(alloc: Global, world: &World, ended: Result<(), Status>, sink:
     ensures no_usage { ended ≢ Err Usage → result ≢ Usage }
     ensures read_fault { result ≡ ReadFault → ended ≡ Err ReadFault }
     ensures write_fault { result ≡ WriteFault → ended ≢ Err WriteFault → Rose (K.faults sink.old) (K.faults sink.new) }
+    ensures faultless { result ≢ WriteFault → K.faults sink.new ≡ K.faults sink.old }
     ensures grows { K.faults sink.old ≤ K.faults sink.new }
 {
     let line = match last_line(alloc, world, ended) {
@@ -132,7 +136,9 @@ fn run_and_close<S: Source, K: Sink>(
     ensures no_usage { result ≢ Usage }
     ensures read_fault { result ≡ ReadFault → Rose (S.faults source.old) (S.faults source.new) }
     ensures write_fault { result ≡ WriteFault → Rose (K.faults sink.old) (K.faults sink.new) }
-    ensures traced { TracedTo (S.left source.old) (reading_of session.old) (K.written sink.old) (K.written sink.new) session.new.world result }
+    ensures sink_faultless { result ≢ WriteFault → result ≢ Memory → K.faults sink.new ≡ K.faults sink.old }
+    ensures source_faultless { result ≢ ReadFault → result ≢ WriteFault → result ≢ Memory → S.faults source.new ≡ S.faults source.old }
+    ensures traced { TracedTo (source_of (S.left source.old) (S.left source.new) (S.faults source.old) (S.faults source.new)) (reading_of session.old) (K.written sink.old) (K.written sink.new) session.new.world result }
 {
     let ended = run_script(alloc, session, source, sink);
     close(alloc, session.world(), ended, sink)
@@ -165,8 +171,9 @@ fn trace<S: Source, K: Sink>(
     ensures no_usage { result ≢ Usage }
     ensures read_fault { result ≡ ReadFault → Rose (S.faults source.old) (S.faults source.new) }
     ensures write_fault { result ≡ WriteFault → Rose (K.faults sink.old) (K.faults sink.new) }
-    ensures traced { IsTrace shape.now (S.left source.old) (K.written sink.old) (K.written sink.new) trail.old trail.new result }
-    ensures shows { result ≢ Memory → Shows (K.written sink.old) (K.written sink.new) trail.new.history result }
+    ensures sink_faultless { result ≢ WriteFault → result ≢ Memory → K.faults sink.new ≡ K.faults sink.old }
+    ensures source_faultless { result ≢ ReadFault → result ≢ WriteFault → result ≢ Memory → S.faults source.new ≡ S.faults source.old }
+    ensures traced { IsTrace shape.now (source_of (S.left source.old) (S.left source.new) (S.faults source.old) (S.faults source.new)) (K.written sink.old) (K.written sink.new) trail.old trail.new result }
     ensures unfilled { result ≡ Memory → trail.new ≡ trail.old }
 {
     let Ok(world) = World::new(alloc, shape) else {
@@ -198,22 +205,25 @@ pub fn trace_top<S: Source, K: Sink>(
     ensures faulty { ¬ IsTraceWords words.now → (result ≡ Usage) ⊎ ((result ≡ WriteFault) ⊎ (result ≡ Memory)) }
     ensures unread { ¬ IsTraceWords words.now → source.new ≡ source.old }
     ensures usage_text { result ≡ Usage → K.written sink.new ≡ append_known (K.written sink.old) (as_line (codes "usage")) }
+    ensures usage_front { ¬ IsTraceWords words.now → Stops (K.written sink.old) (K.written sink.new) (as_line (codes "usage")) }
 
-    // Where the words ask for a shape: the trace is that of the bytes that the source had. It ends as they
-    // say, and what they say is written; the trail has the history of the run of the events that were
-    // handled, and the line of each holder whose line isn't lost, which is lawful for that history.
-    ensures traced { (shape : Dimensions) → AskFor words.now shape → IsTrace shape (S.left source.old) (K.written sink.old) (K.written sink.new) trail.old trail.new result }
-
-    // What was printed is the history in the trail: its events, each once and in order.
-    ensures shows { IsTraceWords words.now → result ≢ Memory → Shows (K.written sink.old) (K.written sink.new) trail.new.history result }
+    // Where the words ask for a shape, the trace is that of the bytes that the source had, where it tells them.
+    // It ends as these bytes say, and what they say is written; where a write failed, a front of that. The
+    // trail has the history of the run of the events that were handled, and the line of each holder whose
+    // line isn't lost, which is lawful for that history. What was printed is that history, each event once and
+    // in order.
+    ensures traced { (shape : Dimensions) → AskFor words.now shape → IsTrace shape (source_of (S.left source.old) (S.left source.new) (S.faults source.old) (S.faults source.new)) (K.written sink.old) (K.written sink.new) trail.old trail.new result }
 
     // Faulty words and want of memory leave the trail as it was.
     ensures faulty_trail { ¬ IsTraceWords words.now → trail.new ≡ trail.old }
     ensures memory_trail { result ≡ Memory → trail.new ≡ trail.old }
 
-    // A fault is answered only where one was counted in this call.
+    // A fault is answered only where one was counted in this call, and one that was counted is answered, unless
+    // there was no memory, or the words on it couldn't be written.
     ensures read_fault { result ≡ ReadFault → Rose (S.faults source.old) (S.faults source.new) }
     ensures write_fault { result ≡ WriteFault → Rose (K.faults sink.old) (K.faults sink.new) }
+    ensures sink_faultless { result ≢ WriteFault → result ≢ Memory → K.faults sink.new ≡ K.faults sink.old }
+    ensures source_faultless { result ≢ ReadFault → result ≢ WriteFault → result ≢ Memory → S.faults source.new ≡ S.faults source.old }
 {
     let Some(shape) = read_words(words) else {
         return match write_line(sink, b"usage\n") {

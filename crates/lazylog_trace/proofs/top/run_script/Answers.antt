@@ -1,4 +1,5 @@
-use Rattle.std.proofs.Common.{ℕ, take, ap, refl, ◌∙◌, arith}
+use Rattle.io_edges.specs.Faults.{Rose}
+use Rattle.std.proofs.Common.{subst, ℕ, take, ap, refl, ◌∙◌, arith}
 use Rattle.std.specs.Prelude.{Err}
 use Rattle.std.specs.Io.KnownBytes.{prepend_known}
 use Rattle.lazylog_trace.specs.Session.{reading_of}
@@ -8,18 +9,19 @@ use Rattle.lazylog_trace.proofs.top.run_script.Goals as goal
 
 pub returns-in_default-clause-ran : goal.returns-in_default-clause-ran
 returns-in_default-clause-ran g c =
-    far_fault (reading_of c.args.session.now) (reading_of c.loop-count.session) (g.S.Source.left c.args.source.now) (g.S.Source.left c.loop-count.source) (g.S.Source.left c.loop-count.source) (g.K.Sink.written c.args.sink.now) (g.K.Sink.written c.loop-count.sink) c.loop-count.invariant.far ReadFault refl
+    far_fault (reading_of c.args.session.now) (reading_of c.loop-count.session) (g.S.Source.left c.args.source.now) (g.S.Source.left c.loop-count.source) (g.S.Source.left c.read.new.self) (g.K.Sink.written c.args.sink.now) (g.K.Sink.written c.loop-count.sink) c.loop-count.invariant.far (g.S.Source.faults c.args.source.now) (g.S.Source.faults c.read.new.self) ReadFault refl c.in_default.ensures.unread
+    (subst (λ (n : ℕ). Rose n (g.S.Source.faults c.read.new.self)) c.loop-count.invariant.source_faultless c.in_default.ensures.failed)
 
 pub returns-then-count-eq0-clause-ran : goal.returns-then-count-eq0-clause-ran
 returns-then-count-eq0-clause-ran g c =
     far_end (reading_of c.args.session.now) (reading_of c.loop-count.session) (g.S.Source.left c.args.source.now) (g.S.Source.left c.loop-count.source) (g.S.Source.left c.read.new.self) (g.K.Sink.written c.args.sink.now) (g.K.Sink.written c.loop-count.sink) c.loop-count.invariant.far
     (c.in-Ok.ensures.bytes ∙ ap (λ (n : ℕ). prepend_known (take n c.read.new.buf) (g.S.Source.left c.read.new.self)) c.if-count-eq0.true)
-    (c.in-Ok.ensures.end c.if-count-eq0.true (let kept = c.read.auto.buf in let piece = c.loop-count.invariant.piece in omega arith)) _ _ c.take_end.result c.take_end.ensures.stopped.no_read_fault c.take_end.ensures.tells c.take_end.ensures.led c.take_end.ensures.line
+    (c.in-Ok.ensures.end c.if-count-eq0.true (let kept = c.read.auto.buf in let piece = c.loop-count.invariant.piece in omega arith)) _ _ (g.S.Source.faults c.args.source.now) (g.S.Source.faults c.read.new.self) c.take_end.result c.take_end.ensures.stopped.no_read_fault c.take_end.ensures.tells c.take_end.ensures.led c.take_end.ensures.line
 
 pub returns-in-Err-clause-ran : goal.returns-in-Err-clause-ran
 returns-in-Err-clause-ran g c =
     far_stop (reading_of c.args.session.now) (reading_of c.loop-count.session) (g.S.Source.left c.args.source.now) (g.S.Source.left c.loop-count.source) (g.S.Source.left c.read.new.self) (g.K.Sink.written c.args.sink.now) (g.K.Sink.written c.loop-count.sink) c.loop-count.invariant.far
-    (take c.in-Ok.count c.read.new.buf) c.in-Ok.ensures.bytes _ _ c.in-Err.status (λ e. c.in-Err.ensures.stopped.no_read_fault (ap Err e)) c.in-Err.ensures.tells c.in-Err.ensures.led c.in-Err.ensures.failed
+    (take c.in-Ok.count c.read.new.buf) c.in-Ok.ensures.bytes _ _ (g.S.Source.faults c.args.source.now) (g.S.Source.faults c.read.new.self) c.in-Err.status (λ e. c.in-Err.ensures.stopped.no_read_fault (ap Err e)) c.in-Err.ensures.tells c.in-Err.ensures.led c.in-Err.ensures.failed
 
 pub loop-count-preserved : goal.loop-count-preserved
 loop-count-preserved g c =
@@ -31,6 +33,6 @@ loop-count-preserved g c =
           (take c.in-Ok.count c.read.new.buf) c.in-Ok.ensures.bytes _ _ c.in-Ok-take.field-0 now.tells;
       kept = now.kept;
       piece = let kept = c.read.auto.buf in let piece = so_far.piece in omega arith;
-      grows = omega (arith, so_far.grows, now.stopped.grows);
-      source_grows = omega (arith, so_far.source_grows, c.read.ensures.grows);
+      faultless = now.stopped.faultless (λ e. cc) ∙ so_far.faultless;
+      source_faultless = c.in-Ok.ensures.faultless ∙ so_far.source_faultless;
     }

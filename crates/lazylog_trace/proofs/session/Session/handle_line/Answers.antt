@@ -1,6 +1,6 @@
 use Rattle.std.proofs.Common.{◌≡◌, ◌+◌, ℕ, List, Some, None, inl, inr, ◌∙◌, ap, subst, refl}
 use Rattle.std.specs.Prelude.{Err}
-use Rattle.io_edges.specs.Telling.{Stops}
+use Rattle.io_edges.specs.Telling.{Fails, Stops}
 use Rattle.lazylog_trace.specs.declared.handling.Outcome.{Outcome}
 use Rattle.lazylog_trace.specs.declared.handling.Outcome.TheVariants.{Through, Spent}
 use Rattle.std.specs.Io.KnownBytes.{append_known}
@@ -58,6 +58,7 @@ returns-in-Err-clause-tells g c =
     let world : c.count_line.new.self.world ≡ c.args.self.now.world = ap (λ (s : Session). s.world) ok.0 in
     failed_tells (reading_of c.args.self.now) c.in-Ok.command (g.K.Sink.written c.args.sink.now) (g.K.Sink.written c.carry_out.new.sink) _ c.in-Err.status ok.1 says c.in-Err.ensures.only
     (subst (λ (w : WorldState). Stops (g.K.Sink.written c.args.sink.now) (g.K.Sink.written c.carry_out.new.sink) (printed (command_lines w c.in-Ok.command (did w (events_of c.in-Ok.command)).world))) world c.in-Err.ensures.front)
+    (λ fault. subst (λ (w : WorldState). Fails (g.K.Sink.written c.args.sink.now) (g.K.Sink.written c.carry_out.new.sink) (printed (command_lines w c.in-Ok.command (did w (events_of c.in-Ok.command)).world))) world (c.in-Err.ensures.fails (ap Err fault)))
 
 pub returns-in-Ok-Through-clause-led : goal.returns-in-Ok-Through-clause-led
 returns-in-Ok-Through-clause-led g c =

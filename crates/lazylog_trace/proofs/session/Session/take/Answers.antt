@@ -1,4 +1,4 @@
-use Rattle.std.proofs.Common.{◌≡◌, get_or, refl, arith}
+use Rattle.std.proofs.Common.{◌≡◌, ◌∙◌, get_or, refl, arith}
 use Rattle.io_edges.specs.declared.status.Status.TheVariants.{WriteFault}
 use Rattle.lazylog_trace.specs.Session.{reading_of}
 use Rattle.lazylog_trace.proofs.ByteTells.{one_more, stop_at, stop_led, stop_failed}
@@ -26,5 +26,5 @@ loop-byte-preserved g c =
       kept = now.kept;
       nearer = omega (arith, so_far.nearer, now.nearer);
       so_far = one_more (reading_of c.args.self.now) (reading_of c.loop-byte.self) _ c.args.bytes.now c.loop-byte.byte-index (get_or c.args.bytes.now c.loop-byte.byte-index 0) (g.K.Sink.written c.args.sink.now) (g.K.Sink.written c.loop-byte.sink) (g.K.Sink.written c.take_byte.new.sink) _ (omega arith) refl so_far.so_far now.tells;
-      grows = omega (arith, so_far.grows, now.stopped.grows);
+      faultless = now.stopped.faultless (λ e. cc) ∙ so_far.faultless;
     }
