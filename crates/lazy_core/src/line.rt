@@ -14,7 +14,7 @@ use view_config::{Config, NodeList};
 /// Why there is no line.
 #[derive(Clone, Copy, Debug, PartialEq, Eq)]
 pub enum LineError {
-    /// Every replica of this shard crashed.
+    /// This is the first shard of which no replica in the newest configuration is left.
     Lost(u32),
     Memory,
 }

@@ -1,5 +1,6 @@
 //! A world: all nodes of a log, every message ever sent, and what the clients did and were told, as
-//! some list of events led to it. What such a list leads to is lawful, and so every world is.
+//! some list of events led to it. In every world the line of each holder is lawful for what the clients
+//! did and were told.
 //!
 //! `nodes.rt` has what a world is made of, `event.rt` what an event does to it, `line.rt` who holds
 //! the log.
@@ -100,8 +101,8 @@ impl World {
         self.nodes.message(k)
     }
 
-    /// The nodes that hold the log: the sequencing replicas of the latest started view that
-    /// aren't crashed, in its order.
+    /// The holders of the log: the sequencing replicas of the latest started view that aren't crashed,
+    /// in its order; the taken state alone, while there is one.
     pub fn holders(&self) -> Result<NodeList, AllocError>
         ensures { IfOk result (λ nodes. nodes ≡ holders self.now) }
     {
