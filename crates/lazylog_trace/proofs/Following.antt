@@ -3,7 +3,9 @@
 use Rattle.std.proofs.Common.{◌≡◌, ◌≢◌, ℕ, ◌+◌, List, [], ◌∷◌, ◌++◌, length, drop, Bool, true, false, Option, Some, None, refl, sym, ap, ◌∙◌, append_assoc, append-nil}
 use Rattle.std.specs.Prelude.{◌==◌, nat_le, if◌then◌else◌, Result, Ok, Err}
 use Rattle.std.proofs.Math.Seq.{drop-append_seam}
+use Rattle.list_facts.specs.Lists.{Each}
 use Rattle.list_facts.proofs.Cases.{either}
+use Rattle.list_facts.proofs.Members.{each_append}
 use Rattle.rec_id.specs.declared.event.Event.{Event}
 use Rattle.view_config.specs.Limits.{line_limit}
 use Rattle.io_edges.specs.declared.status.Status.{Status}
@@ -13,18 +15,19 @@ use Rattle.lazy_rules.specs.WorldRules.{run}
 use Rattle.lazylog_trace.specs.declared.script.Command.{Command}
 use Rattle.lazylog_trace.specs.Doing.{LedTo, did, handled, events_of}
 use Rattle.lazylog_trace.specs.Output.{Reading, Told, goes_on, stops, lines_limit, command_told, said_told, line_done, long_told, byte_told, behind, further_from, told, end_told, script_told}
-use Rattle.lazylog_trace.specs.Printed.{Prints}
 use Rattle.lazylog_trace.specs.Script.{command_of}
 use Rattle.log_safety.proofs.Runs.{run_append}
 use Rattle.lazylog_trace.proofs.Counting.{run_gained}
 use Rattle.lazylog_trace.proofs.Doings.{handled_run}
-use Rattle.lazylog_trace.proofs.Printing.{prints_nothing, prints_command, prints_append}
+use Rattle.lazylog_trace.proofs.Plain.{IsPlain, IsPlainCommand, plain_command, plain_done}
+use Rattle.lazylog_trace.proofs.Printing.{Made, made_nothing, made_command, made_append}
 
 pub record Follows (r : Reading) (t : Told) : Type 0 where
   pub leads : (next : Reading) → t.now ≡ Ok next → next.world ≡ run t.events r.world
   pub growth : List Event
   pub grew : (run t.events r.world).history ≡ r.world.history ++ growth
-  pub prints : Prints r.world t.events t.text growth
+  pub made : Made r.world t.events t.text growth
+  pub plain : Each IsPlain t.events
   pub not_done : (status : Status) → t.now ≡ Err status → status ≢ Done
 
 goes_follows : (r next : Reading) → next.world ≡ r.world → Follows r (goes_on next)
@@ -32,7 +35,8 @@ goes_follows r next same = record {
   leads = λ later e. let is : later ≡ next = cc in ap (λ (x : Reading). x.world) is ∙ same;
   growth = [];
   grew = sym (append-nil r.world.history);
-  prints = prints_nothing r.world [];
+  made = made_nothing r.world [];
+  plain = tt;
   not_done = λ status e. cc;
 }
 
@@ -41,11 +45,12 @@ stops_follows r given other = record {
   leads = λ next e. let wrong : Err given ≡ Ok next = e in cc;
   growth = [];
   grew = sym (append-nil r.world.history);
-  prints = prints_nothing r.world [];
+  made = made_nothing r.world [];
+  plain = tt;
   not_done = λ status e is. let same : given ≡ status = cc in other (same ∙ is);
 }
 
-module _ (r : Reading) (command : Command) where
+module _ (r : Reading) (command : Command) (plain : IsPlainCommand (Some command)) where
   abbrev done : LedTo
   done = did r.world (events_of command)
 
@@ -80,16 +85,17 @@ module _ (r : Reading) (command : Command) where
     leads = λ next e. command_leads next done.spent e;
     growth = gained;
     grew = gained_is;
-    prints = prints_command r.world (handled r.world (events_of command)) command gained;
+    made = made_command r.world (handled r.world (events_of command)) command gained;
+    plain = plain_done r.world command plain;
     not_done = λ status e. command_stops status done.spent e;
   }
 
-said_follows : (r : Reading) (says : Option Command) → Follows r (said_told r says)
-said_follows r None = stops_follows r (BadLine (r.lines + 1)) (λ e. cc)
-said_follows r (Some command) = command_follows r command
+said_follows : (r : Reading) (says : Option Command) → IsPlainCommand says → Follows r (said_told r says)
+said_follows r None plain = stops_follows r (BadLine (r.lines + 1)) (λ e. cc)
+said_follows r (Some command) plain = command_follows r command plain
 
 pub line_follows : (r : Reading) → Follows r (line_done r)
-line_follows r = either (Follows r) (r.lines == lines_limit) (stops (Limit (lines_limit + 1))) (said_told r (command_of r.line)) (λ e. stops_follows r (Limit (lines_limit + 1)) (λ e. cc)) (λ e. said_follows r (command_of r.line))
+line_follows r = either (Follows r) (r.lines == lines_limit) (stops (Limit (lines_limit + 1))) (said_told r (command_of r.line)) (λ e. stops_follows r (Limit (lines_limit + 1)) (λ e. cc)) (λ e. said_follows r (command_of r.line) (plain_command r.line))
 
 pub long_follows : (r : Reading) → Follows r (long_told r)
 long_follows r = either (Follows r) (r.lines == lines_limit) (stops (Limit (lines_limit + 1))) (stops (BadLine (r.lines + 1))) (λ e. stops_follows r (Limit (lines_limit + 1)) (λ e. cc)) (λ e. stops_follows r (BadLine (r.lines + 1)) (λ e. cc))
@@ -113,7 +119,8 @@ behind_follows r now t next on f g =
       grew =
           ap (λ (w : WorldState). w.history) both ∙ g.grew ∙ ap (λ (w : WorldState). w.history ++ g.growth) world
           ∙ ap (λ (h : List Event). h ++ g.growth) f.grew ∙ append_assoc r.world.history f.growth g.growth;
-      prints = prints_append r.world now.world t.events next.events world t.text next.text f.growth g.growth f.prints g.prints;
+      made = made_append r.world now.world t.events next.events world t.text next.text f.growth g.growth f.made g.made;
+      plain = each_append IsPlain t.events next.events f.plain g.plain;
       not_done = g.not_done;
     }
 

@@ -5,7 +5,11 @@ pub mod Doings
 pub mod Lengths
 pub mod NumberWords
 pub mod Writing
+pub mod Flat
+pub mod Plain
+pub mod Clean
 pub mod Printing
+pub mod Lines
 pub mod Following
 pub mod LineTells
 pub mod ByteTells

@@ -4,7 +4,7 @@ use Rattle.std.specs.Prelude.{filter, if◌then◌else◌, nat_lt, Result, Ok, E
 use Rattle.std.proofs.lemmas.Grind.{flat_map-append}
 use Rattle.std.proofs.lemmas.List.{map-append}
 use Rattle.std.proofs.lemmas.List.Elements.{filter-append}
-use Rattle.list_facts.specs.Lists.{In, Each}
+use Rattle.list_facts.specs.Lists.{In, Each, Front}
 use Rattle.list_facts.proofs.Cases.{either}
 use Rattle.list_facts.proofs.Fronts.{front_append, front_trans}
 use Rattle.log_safety.proofs.Runs.{run_append}
@@ -25,7 +25,22 @@ use Rattle.lazylog_trace.specs.declared.script.Command.{Command}
 use Rattle.lazylog_trace.specs.declared.script.Command.TheVariants.{Nothing, Append, Deliver, Flow, Lines}
 use Rattle.lazylog_trace.specs.Doing.{as_line, event_lines, refusal_lines, told_text, holder_line, holder_lines, own_lines}
 use Rattle.lazylog_trace.specs.Output.{printed}
-use Rattle.lazylog_trace.specs.Printed.{IsOwnLine, Prints, is_event_line}
+use Rattle.lazylog_trace.specs.Printed.{is_event_line}
+
+-- a line that a command prints of itself, at a world on the way of these events
+pub record IsOwnLine (start : WorldState) (events : List WorldEvent) (line : List ℕ) : Type 0 where
+  pub passed : List WorldEvent
+  pub on_way : Front passed events
+  pub command : Command
+  pub among : In line (own_lines (run passed start) command)
+
+-- the text is made of lines: those of what was told, each once and in order, and lines that commands print of
+-- themselves
+pub record Made (start : WorldState) (events : List WorldEvent) (text : List ℕ) (told : List Event) : Type 0 where
+  pub lines : List (List ℕ)
+  pub text_is : text ≡ printed lines
+  pub events_are : filter is_event_line lines ≡ event_lines told
+  pub own : Each (λ line. is_event_line line ≡ false → IsOwnLine start events line) lines
 
 -- an event's line is one
 event_is : (event : Event) → is_event_line (as_line (event_text event)) ≡ true
@@ -87,12 +102,12 @@ events_each : (w : WorldState) (events : List WorldEvent) (told : List Event) �
 events_each w events [] = tt
 events_each w events (event ∷ told) = (λ other. let wrong : true ≡ false = sym (event_is event) ∙ other in cc, events_each w events told)
 
-pub prints_nothing : (w : WorldState) (events : List WorldEvent) → Prints w events [] []
-prints_nothing w events = record { lines = []; text_is = refl; events_are = refl; own = tt }
+pub made_nothing : (w : WorldState) (events : List WorldEvent) → Made w events [] []
+made_nothing w events = record { lines = []; text_is = refl; events_are = refl; own = tt }
 
 -- the lines of a command
-pub prints_command : (w : WorldState) (events : List WorldEvent) (command : Command) (told : List Event) → Prints w events (printed (own_lines w command ++ event_lines told)) told
-prints_command w events command told = record {
+pub made_command : (w : WorldState) (events : List WorldEvent) (command : Command) (told : List Event) → Made w events (printed (own_lines w command ++ event_lines told)) told
+made_command w events command told = record {
   lines = own_lines w command ++ event_lines told;
   text_is = refl;
   events_are =
@@ -120,8 +135,8 @@ module _ (start now : WorldState) (events more : List WorldEvent) (now_is : now 
         among = subst (λ (w : WorldState). In line (own_lines w own.command)) (ap (run own.passed) now_is ∙ sym (run_append events own.passed start)) own.among;
       }
 
-  pub prints_append : (text next : List ℕ) (told later : List Event) → Prints start events text told → Prints now more next later → Prints start (events ++ more) (text ++ next) (told ++ later)
-  prints_append text next told later p q = record {
+  pub made_append : (text next : List ℕ) (told later : List Event) → Made start events text told → Made now more next later → Made start (events ++ more) (text ++ next) (told ++ later)
+  made_append text next told later p q = record {
     lines = p.lines ++ q.lines;
     text_is = ap (λ (t : List ℕ). t ++ next) p.text_is ∙ ap (λ (t : List ℕ). printed p.lines ++ t) q.text_is ∙ sym (flat_map-append (λ (line : List ℕ). line) p.lines q.lines);
     events_are =

@@ -6,7 +6,8 @@ use Rattle.io_edges.specs.Telling.{Fails, Stops}
 use Rattle.io_edges.specs.declared.status.Status.{Status}
 use Rattle.io_edges.specs.declared.status.Status.TheVariants.{Done, Usage, BadLine, ReadFault, WriteFault, Memory, Limit}
 use Rattle.io_edges.proofs.TellingLemmas.{append_known-append, goes_on as goes_piece, stops_further, stops_within, stops_same}
-use Rattle.view_config.specs.Shape.{Dimensions}
+use Rattle.view_config.specs.Shape.{Dimensions, IsShape}
+use Rattle.view_config.specs.declared.edition.Mode.TheVariants.{M}
 use Rattle.lazy_msgs.specs.declared.input.WorldEvent.{WorldEvent}
 use Rattle.lazy_rules.specs.WorldState.{WorldState, first_world}
 use Rattle.lazy_rules.specs.WorldRules.{run}
@@ -227,7 +228,7 @@ module _ (shape : Dimensions) (source : Source) (before after : Option (List ℕ
         shows = λ other. absurd (other refl);
       }
 
-  module _ (world : WorldState) (given status : Status) (t : TracedTo source (first_reading shape) before after world given) (filled : status ≢ Memory → IsFilled world trail_before trail_after) where
+  module _ (formed : IsShape shape) (mode : shape.mode ≡ M) (world : WorldState) (given status : Status) (t : TracedTo source (first_reading shape) before after world given) (filled : status ≢ Memory → IsFilled world trail_before trail_after) where
     -- there was no memory for the trail
     unfilled_trace : status ≡ Memory → IsTrace shape source before after trail_before trail_after status
     unfilled_trace is = record {
@@ -248,8 +249,8 @@ module _ (shape : Dimensions) (source : Source) (before after : Option (List ℕ
       traced = traced;
       filled = filled_run;
       shows = λ other.
-          subst (λ (h : List Event). Shows (first_world shape) t.events before after h status) (sym (filled_run other).history)
-          (shown source (first_reading shape) refl t.bytes before after t.events status other traced);
+          subst (λ (h : List Event). Shows before after h status) (sym (filled_run other).history)
+          (shown source shape formed mode t.bytes before after t.events status other traced);
     }
       where
         traced : Traced source (first_reading shape) t.bytes before after t.events status

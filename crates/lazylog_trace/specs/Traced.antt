@@ -150,4 +150,4 @@ pub record IsTrace (shape : Dimensions) (source : Source) (before after : Option
   pub events : List WorldEvent
   pub traced : Traced source (first_reading shape) bytes before after events status
   pub filled : status ≢ Memory → IsFilled (run events (first_world shape)) trail_before trail_after
-  pub shows : status ≢ Memory → Shows (first_world shape) events before after trail_after.history status
+  pub shows : status ≢ Memory → Shows before after trail_after.history status

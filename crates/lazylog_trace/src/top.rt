@@ -11,7 +11,7 @@ ghost use Rattle.view_config.specs.declared.edition.Mode.TheVariants.{M};
 ghost use Rattle.io_edges.specs.Faults.{Rose};
 ghost use Rattle.io_edges.specs.declared.status.Status.TheVariants.{Usage, ReadFault, WriteFault, Memory};
 ghost use Rattle.lazylog_trace.specs.Session.{IsUnderWay, Stopped, reading_of};
-ghost use Rattle.view_config.specs.Shape.{Dimensions};
+ghost use Rattle.view_config.specs.Shape.{Dimensions, IsShape};
 ghost use Rattle.lazylog_trace.specs.Words.{AskFor, IsTraceWords};
 
 use crate::session::{Session, write_line};
@@ -167,7 +167,8 @@ fn trace<S: Source, K: Sink>(
     sink: &mut K,
     trail: &mut Trail,
 ) -> Status
-    requires { shape.now.mode ≡ M }
+    requires mode { shape.now.mode ≡ M }
+    requires formed { IsShape shape.now }
     ensures no_usage { result ≢ Usage }
     ensures read_fault { result ≡ ReadFault → Rose (S.faults source.old) (S.faults source.new) }
     ensures write_fault { result ≡ WriteFault → Rose (K.faults sink.old) (K.faults sink.new) }
