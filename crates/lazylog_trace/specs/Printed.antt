@@ -13,7 +13,7 @@ abbrev pub last_of : List ℕ → List (List ℕ)
 last_of [] = []
 last_of (byte ∷ bytes) = (byte ∷ bytes) ∷ []
 
--- the lines of a text, each with its newline, of the first of which this was read
+-- the lines of a text, each with its newline, where `line` was read of the first one already
 abbrev pub lines_from : List ℕ → List ℕ → List (List ℕ)
 lines_from line [] = last_of line
 lines_from line (byte ∷ bytes) = if byte == 10 then (line ++ byte ∷ []) ∷ lines_from [] bytes else lines_from (line ++ byte ∷ []) bytes
