@@ -104,6 +104,7 @@ module _ (start r : Reading) (had left left_now before between : Option (List �
         ran = record {
           on = tt;
           ended = tt;
+          faultless = λ e. absurd (e (ap Err is));
           whole = tt;
           stopped = λ one two three. absurd (one is);
           written = λ one two three. absurd (one is);
@@ -145,11 +146,11 @@ module _ (start r : Reading) (had left left_now before between : Option (List �
           world_is = k.world_is;
         }
 
-    pub far_stop : {R : Type 0} (faults faults_now : ℕ) (status : Status) → status ≢ ReadFault → Tells {R = R} (told r piece) between after now (Err status)
+    pub far_stop : {R : Type 0} (faults faults_now : ℕ) → faults_now ≡ faults → (status : Status) → status ≢ ReadFault → Tells {R = R} (told r piece) between after now (Err status)
         → (status ≢ WriteFault → status ≢ Memory → now.world ≡ run (told r piece).events r.world)
         → ((more : List ℕ) → ◌≡◌ {A = Result R Status} (Err status) (Err WriteFault) → FailedIn r (piece ++ more) between after now.world)
         → RanOf {R = R} (source_of had left_now faults faults_now) start before after now (Err status)
-    far_stop {R = R} faults faults_now status other t led failed =
+    far_stop {R = R} faults faults_now quiet status other t led failed =
         let both = tells_further {R = R} start r now far.read piece before between after (Err status) far.so_far t in
         let rest = left_bytes left_now in
         let goes = begins start (far.read ++ piece) rest in
@@ -163,6 +164,7 @@ module _ (start r : Reading) (had left left_now before between : Option (List �
           ran = record {
             on = tt;
             ended = tt;
+            faultless = λ e. quiet;
             whole = tt;
             stopped = λ one two three. ap (λ (x : Told). x.now) (whole (both.stopped two three)) ∙ both.stopped two three;
             written = λ one two three. both.written two three ∙ ap (λ (x : Told). append_known before x.text) (sym (whole (both.stopped two three)));
@@ -194,13 +196,14 @@ module _ (start r : Reading) (had left left_now before between : Option (List �
     had_all : HasBytes had far.read
     had_all = has_all had left_now far.read ended (far.had_is ∙ ap (prepend_known far.read) (read ∙ sym (prepend_none left_now)))
 
-    pub far_end : {R : Type 0} (faults faults_now : ℕ) (outcome : Result R Status) → outcome ≢ Err ReadFault → Tells {R = R} (end_told r) between after now outcome → Led {R = R} (end_told r).events r.world now.world outcome → OnErr outcome (end_told r ≡ line_done r) → RanOf {R = R} (source_of had left_now faults faults_now) start before after now outcome
-    far_end faults faults_now (Ok x) other t led line = record {
+    pub far_end : {R : Type 0} (faults faults_now : ℕ) → faults_now ≡ faults → (outcome : Result R Status) → outcome ≢ Err ReadFault → Tells {R = R} (end_told r) between after now outcome → Led {R = R} (end_told r).events r.world now.world outcome → OnErr outcome (end_told r ≡ line_done r) → RanOf {R = R} (source_of had left_now faults faults_now) start before after now outcome
+    far_end faults faults_now quiet (Ok x) other t led line = record {
       bytes = far.read;
       has = had_all;
       ran = record {
         on = ap (λ (y : Told). y.now) script_is ∙ t.on;
         ended = ended;
+        faultless = λ e. quiet;
         whole = text_after t.whole;
         stopped = tt;
         written = tt;
@@ -210,12 +213,13 @@ module _ (start r : Reading) (had left left_now before between : Option (List �
         front = end_front t.front;
       };
     }
-    far_end faults faults_now (Err status) other t led line = record {
+    far_end faults faults_now quiet (Err status) other t led line = record {
       bytes = far.read;
       has = had_all;
       ran = record {
         on = tt;
         ended = tt;
+        faultless = λ e. quiet;
         whole = tt;
         stopped = λ one two three. ap (λ (y : Told). y.now) script_is ∙ t.stopped two three;
         written = λ one two three. text_after (t.written two three);

@@ -14,10 +14,10 @@ use Rattle.view_config.specs.declared.edition.Mode.TheVariants.{M}
 use Rattle.lazylog_trace.proofs.Lines.{made_prints}
 use Rattle.lazylog_trace.specs.Output.{first_reading, out, out_read, Reading, Told, told, line_done, script_told, behind, closing}
 use Rattle.lazylog_trace.specs.Printed.{Prints, Shows}
-use Rattle.lazylog_trace.specs.Traced.{Source, Traced}
+use Rattle.lazylog_trace.specs.Traced.{SourceTold, Traced}
 use Rattle.lazylog_trace.proofs.Following.{Follows, behind_follows, line_follows, script_follows, told_follows}
 
-module _ (source : Source) (shape : Dimensions) (formed : IsShape shape) (mode : shape.mode ≡ M) (bytes : List ℕ) (before after : Option (List ℕ)) (events : List WorldEvent) where
+module _ (source : SourceTold) (shape : Dimensions) (formed : IsShape shape) (mode : shape.mode ≡ M) (bytes : List ℕ) (before after : Option (List ℕ)) (events : List WorldEvent) where
   abbrev start : Reading
   start = first_reading shape
 
@@ -62,24 +62,24 @@ module _ (source : Source) (shape : Dimensions) (formed : IsShape shape) (mode :
         front = whole_front (out_read start k.0.read) k.2;
       }
   shown WriteFault other t = elim (t.failed refl) [
-    | inl line ↦ record {
-      text = ((told start line.0.read).text ++ (line_done line.0.now).text) ++ closing (Err WriteFault);
-      prints = prints (behind (told start line.0.read) (line_done line.0.now)) (behind_follows start line.0.now (told start line.0.read) (line_done line.0.now) line.0.on (told_follows start line.0.read) (line_follows line.0.now)) (Err WriteFault) line.1;
-      whole = λ e. absurd (e refl);
-      front = stops_within [] refl (parts_front (told start line.0.read).text (line_done line.0.now).text line.0.front);
-    }
-    | inr last ↦ elim last [
-      | inl whole ↦ record {
+    | inl quiet ↦ elim quiet.1 [
+      | inl line ↦ record {
+        text = ((told start line.0.read).text ++ (line_done line.0.now).text) ++ closing (Err WriteFault);
+        prints = prints (behind (told start line.0.read) (line_done line.0.now)) (behind_follows start line.0.now (told start line.0.read) (line_done line.0.now) line.0.on (told_follows start line.0.read) (line_follows line.0.now)) (Err WriteFault) line.1;
+        whole = λ e. absurd (e refl);
+        front = stops_within [] refl (parts_front (told start line.0.read).text (line_done line.0.now).text line.0.front);
+      }
+      | inr whole ↦ record {
         text = out start bytes;
         prints = prints (script_told start bytes) (script_follows start bytes) (script_told start bytes).now whole.handled;
         whole = λ e. absurd (e refl);
         front = parts_front (script_told start bytes).text (closing (script_told start bytes).now) whole.front;
       }
-      | inr read ↦ record {
-        text = out_read start read.0.read;
-        prints = prints (told start read.0.read) (told_follows start read.0.read) (Err ReadFault) read.1.handled;
-        whole = λ e. absurd (e refl);
-        front = parts_front (told start read.0.read).text (closing (Err ReadFault)) read.1.front;
-      }
     ]
+    | inr read ↦ record {
+      text = out_read start read.0.read;
+      prints = prints (told start read.0.read) (told_follows start read.0.read) (Err ReadFault) read.1.handled;
+      whole = λ e. absurd (e refl);
+      front = parts_front (told start read.0.read).text (closing (Err ReadFault)) read.1.front;
+    }
   ]

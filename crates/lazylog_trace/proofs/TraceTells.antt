@@ -14,7 +14,7 @@ use Rattle.lazy_rules.specs.WorldRules.{run}
 use Rattle.lazy_core.specs.declared.trail.Trail.{Trail}
 use Rattle.lazy_core.specs.Filled.{IsFilled}
 use Rattle.lazylog_trace.specs.Output.{Reading, first_reading, told, line_done, script_told, closing, closing_line, last_line, status_of, stop_text, out, out_read}
-use Rattle.lazylog_trace.specs.Traced.{Closed, FailedIn, HasBytes, IsTrace, Ran, RanOf, ReadOf, Source, Traced, TracedTo}
+use Rattle.lazylog_trace.specs.Traced.{Closed, FailedIn, HasBytes, IsTrace, Ran, RanOf, ReadOf, SourceTold, Traced, TracedTo}
 use Rattle.lazylog_trace.specs.Printed.{Shows}
 use Rattle.lazylog_trace.proofs.Showing.{shown}
 use Rattle.rec_id.specs.declared.event.Event.{Event}
@@ -22,12 +22,12 @@ use Rattle.log_safety.proofs.Runs.{run_append}
 use Rattle.lazylog_trace.proofs.Following.{told_follows, script_follows}
 
 -- a trace of these bytes: the events that it handled, and the world that they led to
-record Course (source : Source) (start : Reading) (bytes : List ℕ) (before after : Option (List ℕ)) (world : WorldState) (status : Status) : Type 0 where
+record Course (source : SourceTold) (start : Reading) (bytes : List ℕ) (before after : Option (List ℕ)) (world : WorldState) (status : Status) : Type 0 where
   events : List WorldEvent
   traced : Traced source start bytes before after events status
   led : status ≢ Memory → world ≡ run events start.world
 
-module _ (source : Source) (start : Reading) (bytes : List ℕ) (before : Option (List ℕ)) where
+module _ (source : SourceTold) (start : Reading) (bytes : List ℕ) (before : Option (List ℕ)) where
   -- want of memory, wherever it came
   memory_only : (after : Option (List ℕ)) (events : List WorldEvent) → Stops before after (out start bytes) ⊎ ((k : ReadOf source start bytes) × Stops before after (out_read start k.read)) → Traced source start bytes before after events Memory
   memory_only after events front = record {
@@ -43,14 +43,14 @@ module _ (source : Source) (start : Reading) (bytes : List ℕ) (before : Option
   pub then_memory : (after : Option (List ℕ)) (events : List WorldEvent) (status : Status) → Traced source start bytes before after events status → Traced source start bytes before after events Memory
   then_memory after events status t = memory_only after events t.front
 
-module _ (source : Source) (start : Reading) (bytes : List ℕ) (before between after : Option (List ℕ)) (now : Reading) where
+module _ (source : SourceTold) (start : Reading) (bytes : List ℕ) (before between after : Option (List ℕ)) (now : Reading) where
   -- a text, and the last line behind it
   two_parts : (first last : List ℕ) → between ≡ append_known before first → after ≡ append_known between last → after ≡ append_known before (first ++ last)
   two_parts first last one two = two ∙ ap (λ (k : Option (List ℕ)). append_known k last) one ∙ append_known-append before first last
 
   -- all of the script was handled: it was read to its end, or to the line that stops it
   module _ (end_is : Result Reading Status) (is : (script_told start bytes).now ≡ end_is) (written : between ≡ append_known before (script_told start bytes).text) (world : now.world ≡ run (script_told start bytes).events start.world)
-      (line : Option (List ℕ)) (line_is : closing_line line ≡ closing end_is) (given : Status) (given_is : given ≡ status_of end_is) (no_fault : given ≢ ReadFault) (no_write : given ≢ WriteFault) (ended : given ≡ Done → IsAtEnd source.left) (status : Status) (closed : Closed line given between after status) where
+      (line : Option (List ℕ)) (line_is : closing_line line ≡ closing end_is) (given : Status) (given_is : given ≡ status_of end_is) (no_fault : given ≢ ReadFault) (no_write : given ≢ WriteFault) (ended : given ≡ Done → IsAtEnd source.left) (quiet : source.faults_now ≡ source.faults) (status : Status) (closed : Closed line given between after status) where
     last_is : closing_line line ≡ closing (script_told start bytes).now
     last_is = line_is ∙ ap (λ (n : Result Reading Status). closing n) (sym is)
 
@@ -90,10 +90,13 @@ module _ (source : Source) (start : Reading) (bytes : List ℕ) (before between 
             | inr f ↦ let wrong : Memory ≡ ReadFault = sym f ∙ e in cc
           ]
         ];
-        failed = λ e. inr (inl (record {
-          handled = refl;
-          front = subst (λ (k : Option (List ℕ)). Fails k after (closing (script_told start bytes).now)) written (subst (λ (last : List ℕ). Fails between after last) last_is (closing_fails e));
-        }));
+        failed = λ e. inl (
+          quiet,
+          inr (record {
+            handled = refl;
+            front = subst (λ (k : Option (List ℕ)). Fails k after (closing (script_told start bytes).now)) written (subst (λ (last : List ℕ). Fails between after last) last_is (closing_fails e));
+          }),
+        );
         front = inl (stops_further (goes_piece (script_told start bytes).text refl written) (subst (λ (last : List ℕ). Stops between after last) last_is closed.front));
       };
       led = λ e. world;
@@ -116,7 +119,7 @@ module _ (source : Source) (start : Reading) (bytes : List ℕ) (before between 
             | inr f ↦ let wrong : Memory ≡ ReadFault = sym f ∙ e in cc
           ]
         ];
-        failed = λ e. inr (inr (k, record { handled = refl; front = subst (λ (known : Option (List ℕ)). Fails known after (closing (Err ReadFault))) written (closing_fails e) }));
+        failed = λ e. inr (k, record { handled = refl; front = subst (λ (known : Option (List ℕ)). Fails known after (closing (Err ReadFault))) written (closing_fails e) });
         front = inr (k, stops_further (goes_piece (told start k.read).text refl written) closed.front);
       };
       led = λ e. ap (λ (r : Reading). r.world) (sym k_now) ∙ (told_follows start k.read).leads k.now k.on;
@@ -138,7 +141,7 @@ module _ (source : Source) (start : Reading) (bytes : List ℕ) (before between 
         ]
 
   -- the write of a line failed, so that there is no last line
-  module _ (status : Status) (failed : FailedIn start bytes before between now.world) (front : Stops before between (out start bytes)) (same : after ≡ between) (why : (status ≡ WriteFault) ⊎ (status ≡ Memory)) where
+  module _ (status : Status) (quiet : source.faults_now ≡ source.faults) (failed : FailedIn start bytes before between now.world) (front : Stops before between (out start bytes)) (same : after ≡ between) (why : (status ≡ WriteFault) ⊎ (status ≡ Memory)) where
     sink_course : Course source start bytes before after now.world status
     sink_course = record {
       events = (told start failed.place.read).events ++ (line_done failed.place.now).events;
@@ -152,16 +155,19 @@ module _ (source : Source) (start : Reading) (bytes : List ℕ) (before between 
           | inr f ↦ let wrong : Memory ≡ ReadFault = sym f ∙ e in cc
         ];
         failed = λ e. inl (
-          record {
-            read = failed.place.read;
-            rest = failed.place.rest;
-            now = failed.place.now;
-            bytes_are = failed.place.bytes_are;
-            ends = failed.place.ends;
-            on = failed.place.on;
-            front = subst (λ (known : Option (List ℕ)). Fails (append_known before (told start failed.place.read).text) known (line_done failed.place.now).text) (sym same) failed.place.front;
-          },
-          refl,
+          quiet,
+          inl (
+            record {
+              read = failed.place.read;
+              rest = failed.place.rest;
+              now = failed.place.now;
+              bytes_are = failed.place.bytes_are;
+              ends = failed.place.ends;
+              on = failed.place.on;
+              front = subst (λ (known : Option (List ℕ)). Fails (append_known before (told start failed.place.read).text) known (line_done failed.place.now).text) (sym same) failed.place.front;
+            },
+            refl,
+          ),
         );
         front = inl (subst (λ (known : Option (List ℕ)). Stops before known (out start bytes)) (sym same) front);
       };
@@ -184,12 +190,12 @@ module _ (source : Source) (start : Reading) (bytes : List ℕ) (before between 
 
   -- a line stopped it
   at_line : (given status : Status) → (given ≡ Done → IsAtEnd source.left) → given ≢ ReadFault → given ≢ WriteFault → given ≢ Memory → Ran {R = Unit {0}} source start bytes before between now (Err given) → Closed (stop_text given) given between after status → Course source start bytes before after now.world status
-  at_line given status ended one two three ran closed = whole_course (Err given) (ran.stopped one two three) (ran.written one two three) (ran.led one two three) (stop_text given) refl given refl one two ended status closed
+  at_line given status ended one two three ran closed = whole_course (Err given) (ran.stopped one two three) (ran.written one two three) (ran.led one two three) (stop_text given) refl given refl one two ended (ran.faultless (λ e. let same : given ≡ ReadFault = cc in one same)) status closed
 
   -- whatever stopped it
   stopped_course : (given status : Status) → Ran {R = Unit {0}} source start bytes before between now (Err given) → Closed (stop_text given) given between after status → Course source start bytes before after now.world status
   stopped_course ReadFault status ran closed = let k = ran.read refl in source_course status k.0 k.1 k.2 closed
-  stopped_course WriteFault status ran closed = let none = closed.none refl in sink_course status (ran.failed refl) (stops_within (closing (script_told start bytes).now) refl ran.front) none.0 none.1
+  stopped_course WriteFault status ran closed = let none = closed.none refl in sink_course status (ran.faultless (λ e. cc)) (ran.failed refl) (stops_within (closing (script_told start bytes).now) refl ran.front) none.0 none.1
   stopped_course Memory status ran closed =
       let none = closed.none refl in
       memory_course status (elim none.1 [ inl e ↦ e | inr e ↦ e ])
@@ -200,17 +206,17 @@ module _ (source : Source) (start : Reading) (bytes : List ℕ) (before between 
   stopped_course Usage status ran closed = at_line Usage status (λ e. cc) (λ e. cc) (λ e. cc) (λ e. cc) ran closed
 
   both_course : (ended : Result (Unit {0}) Status) (status : Status) → Ran source start bytes before between now ended → Closed (last_line now.world ended) (status_of ended) between after status → Course source start bytes before after now.world status
-  both_course (Ok done) status ran closed = whole_course (Ok now) ran.on ran.whole ((script_follows start bytes).leads now ran.on) (last_line now.world (Ok done)) refl Done refl (λ e. cc) (λ e. cc) (λ e. ran.ended) status closed
+  both_course (Ok done) status ran closed = whole_course (Ok now) ran.on ran.whole ((script_follows start bytes).leads now ran.on) (last_line now.world (Ok done)) refl Done refl (λ e. cc) (λ e. cc) (λ e. ran.ended) (ran.faultless (λ e. cc)) status closed
   both_course (Err given) status ran closed = stopped_course given status ran closed
 
 -- what a script led to, and then the last line
-pub both_traced : (source : Source) (start : Reading) (before between after : Option (List ℕ)) (now : Reading) (ended : Result (Unit {0}) Status) (status : Status) → RanOf source start before between now ended → Closed (last_line now.world ended) (status_of ended) between after status → TracedTo source start before after now.world status
+pub both_traced : (source : SourceTold) (start : Reading) (before between after : Option (List ℕ)) (now : Reading) (ended : Result (Unit {0}) Status) (status : Status) → RanOf source start before between now ended → Closed (last_line now.world ended) (status_of ended) between after status → TracedTo source start before after now.world status
 both_traced source start before between after now ended status r closed =
     let course = both_course source start r.bytes before between after now ended status r.ran closed in
     record { bytes = r.bytes; has = r.has; events = course.events; traced = course.traced; led = course.led }
 
 -- a trace in a shape
-module _ (shape : Dimensions) (source : Source) (before after : Option (List ℕ)) (trail_before trail_after : Trail) where
+module _ (shape : Dimensions) (source : SourceTold) (before after : Option (List ℕ)) (trail_before trail_after : Trail) where
   any_bytes : (h : Option (List ℕ)) → (bytes : List ℕ) × HasBytes h bytes
   any_bytes None = ([], tt)
   any_bytes (Some bytes) = (bytes, refl)

@@ -20,7 +20,8 @@ use Rattle.lazylog_trace.specs.Printed.{Shows}
 --   `Closed`               what the last line adds;
 --   `Traced`, `TracedTo`   both together, for the bytes of a script, and for a source;
 --   `IsTrace`              what `trace_top` promises: that, and the trail.
--- `ReadOf`, `FailedAt` and `FailedLast` say where a read or a write failed.
+-- `SourceTold` and `HasBytes` say what the source tells; `ReadOf`, `FailedAt`, `FailedIn` and `FailedLast` where a
+-- read or a write failed, and `Failed` which write it was.
 
 -- what was printed and is written, and where the reading is, after a call that had this outcome: all of it
 -- where it went on or stopped; a front of it, whatever happened; and not all of it where a write failed
@@ -58,13 +59,13 @@ pub record FailedIn (start : Reading) (bytes : List ℕ) (before after : Option 
   pub world_is : world ≡ run (line_done place.now).events place.now.world
 
 -- what a source tells before and after a call: the bytes that it has left, and its faults
-pub record Source : Type 0 where
+pub record SourceTold : Type 0 where
   pub had : Option (List ℕ)
   pub left : Option (List ℕ)
   pub faults : ℕ
   pub faults_now : ℕ
 
-abbrev pub source_of : Option (List ℕ) → Option (List ℕ) → ℕ → ℕ → Source
+abbrev pub source_of : Option (List ℕ) → Option (List ℕ) → ℕ → ℕ → SourceTold
 source_of had left faults faults_now = record { had = had; left = left; faults = faults; faults_now = faults_now }
 
 -- where they are told, they are these
@@ -73,7 +74,7 @@ HasBytes None bytes = Unit {0}
 HasBytes (Some known) bytes = known ≡ bytes
 
 -- the source failed behind some bytes of the script, and no line among them stopped the trace
-pub record ReadOf (source : Source) (start : Reading) (bytes : List ℕ) : Type 0 where
+pub record ReadOf (source : SourceTold) (start : Reading) (bytes : List ℕ) : Type 0 where
   pub read : List ℕ
   pub rest : List ℕ
   pub now : Reading
@@ -84,9 +85,10 @@ pub record ReadOf (source : Source) (start : Reading) (bytes : List ℕ) : Type 
 
 -- what a script that has these bytes led to: it was read to its end, or to the line that stops it; or the
 -- source failed on the way; or the sink did, or there was no memory
-pub record Ran {R : Type 0} (source : Source) (start : Reading) (bytes : List ℕ) (before after : Option (List ℕ)) (now : Reading) (outcome : Result R Status) : Type 0 where
+pub record Ran {R : Type 0} (source : SourceTold) (start : Reading) (bytes : List ℕ) (before after : Option (List ℕ)) (now : Reading) (outcome : Result R Status) : Type 0 where
   pub on : OnOk outcome ((script_told start bytes).now ≡ Ok now)
   pub ended : OnOk outcome (IsAtEnd source.left)
+  pub faultless : outcome ≢ Err ReadFault → source.faults_now ≡ source.faults
   pub whole : OnOk outcome (after ≡ append_known before (script_told start bytes).text)
   pub stopped : IfErr outcome (λ status. status ≢ ReadFault → status ≢ WriteFault → status ≢ Memory → (script_told start bytes).now ≡ Err status)
   pub written : IfErr outcome (λ status. status ≢ ReadFault → status ≢ WriteFault → status ≢ Memory → after ≡ append_known before (script_told start bytes).text)
@@ -96,7 +98,7 @@ pub record Ran {R : Type 0} (source : Source) (start : Reading) (bytes : List �
   pub front : Stops before after (script_told start bytes).text
 
 -- a source had some bytes, and this is what they led to
-pub record RanOf {R : Type 0} (source : Source) (start : Reading) (before after : Option (List ℕ)) (now : Reading) (outcome : Result R Status) : Type 0 where
+pub record RanOf {R : Type 0} (source : SourceTold) (start : Reading) (before after : Option (List ℕ)) (now : Reading) (outcome : Result R Status) : Type 0 where
   pub bytes : List ℕ
   pub has : HasBytes source.had bytes
   pub ran : Ran source start bytes before after now outcome
@@ -112,19 +114,19 @@ pub record FailedLast (t : Told) (last : List ℕ) (before after : Option (List 
   pub handled : events ≡ t.events
   pub front : Fails (append_known before t.text) after last
 
--- a write failed, and these events were handled by then: that of a line, whose events are among them; that
--- of the last line; or that of the last line behind a failed source
-abbrev pub Failed : Source → Reading → List ℕ → Option (List ℕ) → Option (List ℕ) → List WorldEvent → Type 0
+-- a write failed, and these events were handled by then: where the source had no fault, that of a line, whose
+-- events are among them, or that of the last line; or else that of the last line behind the failed source
+abbrev pub Failed : SourceTold → Reading → List ℕ → Option (List ℕ) → Option (List ℕ) → List WorldEvent → Type 0
 Failed source start bytes before after events =
-    ((k : FailedAt start bytes before after) × (events ≡ (told start k.read).events ++ (line_done k.now).events))
-    ⊎ (FailedLast (script_told start bytes) (closing (script_told start bytes).now) before after events
-    ⊎ ((k : ReadOf source start bytes) × FailedLast (told start k.read) (closing (Err ReadFault)) before after events))
+    ((source.faults_now ≡ source.faults) × (((k : FailedAt start bytes before after) × (events ≡ (told start k.read).events ++ (line_done k.now).events))
+    ⊎ FailedLast (script_told start bytes) (closing (script_told start bytes).now) before after events))
+    ⊎ ((k : ReadOf source start bytes) × FailedLast (told start k.read) (closing (Err ReadFault)) before after events)
 
 -- What a trace of a script that has these bytes printed, which events it handled, and what it ends with: the
 -- output of the script; where the source failed, that of the lines that were read; where a write failed,
 -- that of the lines before it and a front of what was being written; and a front of the output, whatever
 -- happened.
-pub record Traced (source : Source) (start : Reading) (bytes : List ℕ) (before after : Option (List ℕ)) (events : List WorldEvent) (status : Status) : Type 0 where
+pub record Traced (source : SourceTold) (start : Reading) (bytes : List ℕ) (before after : Option (List ℕ)) (events : List WorldEvent) (status : Status) : Type 0 where
   pub ended : status ≢ ReadFault → status ≢ WriteFault → status ≢ Memory → status ≡ end_of start bytes
   pub whole : status ≢ ReadFault → status ≢ WriteFault → status ≢ Memory → after ≡ append_known before (out start bytes)
   pub handled : status ≢ ReadFault → status ≢ WriteFault → status ≢ Memory → events ≡ (script_told start bytes).events
@@ -134,7 +136,7 @@ pub record Traced (source : Source) (start : Reading) (bytes : List ℕ) (before
   pub front : Stops before after (out start bytes) ⊎ ((k : ReadOf source start bytes) × Stops before after (out_read start k.read))
 
 -- a source had some bytes, a trace of them handled these events, and they led to this world
-pub record TracedTo (source : Source) (start : Reading) (before after : Option (List ℕ)) (world : WorldState) (status : Status) : Type 0 where
+pub record TracedTo (source : SourceTold) (start : Reading) (before after : Option (List ℕ)) (world : WorldState) (status : Status) : Type 0 where
   pub bytes : List ℕ
   pub has : HasBytes source.had bytes
   pub events : List WorldEvent
@@ -144,7 +146,7 @@ pub record TracedTo (source : Source) (start : Reading) (before after : Option (
 -- A trace in a shape, of the bytes that the source had, where it tells them: its trail has the history of the
 -- run of the events that were handled, and the lines of the holders then, each of them lawful for that
 -- history; and what was printed is that history.
-pub record IsTrace (shape : Dimensions) (source : Source) (before after : Option (List ℕ)) (trail_before trail_after : Trail) (status : Status) : Type 0 where
+pub record IsTrace (shape : Dimensions) (source : SourceTold) (before after : Option (List ℕ)) (trail_before trail_after : Trail) (status : Status) : Type 0 where
   pub bytes : List ℕ
   pub has : HasBytes source.had bytes
   pub events : List WorldEvent

@@ -193,7 +193,7 @@ fn trace<S: Source, K: Sink>(
 /// where line n is one too many, or an event of it would send more than a world may.
 ///
 /// The trail is filled whatever the trace ended with, but for faulty words and want of memory: it has the
-/// history of the events that were handled, and the lines of the holders.
+/// history of the events that were handled, and the lines of those holders whose line isn't lost.
 pub fn trace_top<S: Source, K: Sink>(
     alloc: Global,
     words: &TextList,
@@ -207,12 +207,14 @@ pub fn trace_top<S: Source, K: Sink>(
     ensures unread { ¬ IsTraceWords words.now → source.new ≡ source.old }
     ensures usage_text { result ≡ Usage → K.written sink.new ≡ append_known (K.written sink.old) (as_line (codes "usage")) }
     ensures usage_front { ¬ IsTraceWords words.now → Stops (K.written sink.old) (K.written sink.new) (as_line (codes "usage")) }
+    ensures usage_fails { ¬ IsTraceWords words.now → result ≡ WriteFault → Fails (K.written sink.old) (K.written sink.new) (as_line (codes "usage")) }
 
     // Where the words ask for a shape, the trace is that of the bytes that the source had, where it tells them.
-    // It ends as these bytes say, and what they say is written; where a write failed, a front of that. The
-    // trail has the history of the run of the events that were handled, and the line of each holder whose
-    // line isn't lost, which is lawful for that history. What was printed is that history, each event once and
-    // in order.
+    // It ends as these bytes say, and what they say is written; where the source failed, what the lines say
+    // that were read whole, and that it failed; where a write failed, a front of that. The trail has the history
+    // of the run of the events that were handled, and the line of each holder whose line isn't lost, which is
+    // lawful for that history. What was printed is that history, each event once and in order, or a front of it
+    // where a write failed.
     ensures traced { (shape : Dimensions) → AskFor words.now shape → IsTrace shape (source_of (S.left source.old) (S.left source.new) (S.faults source.old) (S.faults source.new)) (K.written sink.old) (K.written sink.new) trail.old trail.new result }
 
     // Faulty words and want of memory leave the trail as it was.
@@ -220,7 +222,7 @@ pub fn trace_top<S: Source, K: Sink>(
     ensures memory_trail { result ≡ Memory → trail.new ≡ trail.old }
 
     // A fault is answered only where one was counted in this call, and one that was counted is answered, unless
-    // there was no memory, or the words on it couldn't be written.
+    // there was no memory, or, for the source's, the line on it couldn't be written.
     ensures read_fault { result ≡ ReadFault → Rose (S.faults source.old) (S.faults source.new) }
     ensures write_fault { result ≡ WriteFault → Rose (K.faults sink.old) (K.faults sink.new) }
     ensures sink_faultless { result ≢ WriteFault → result ≢ Memory → K.faults sink.new ≡ K.faults sink.old }

@@ -16,12 +16,12 @@ pub returns-then-count-eq0-clause-ran : goal.returns-then-count-eq0-clause-ran
 returns-then-count-eq0-clause-ran g c =
     far_end (reading_of c.args.session.now) (reading_of c.loop-count.session) (g.S.Source.left c.args.source.now) (g.S.Source.left c.loop-count.source) (g.S.Source.left c.read.new.self) (g.K.Sink.written c.args.sink.now) (g.K.Sink.written c.loop-count.sink) c.loop-count.invariant.far
     (c.in-Ok.ensures.bytes ∙ ap (λ (n : ℕ). prepend_known (take n c.read.new.buf) (g.S.Source.left c.read.new.self)) c.if-count-eq0.true)
-    (c.in-Ok.ensures.end c.if-count-eq0.true (let kept = c.read.auto.buf in let piece = c.loop-count.invariant.piece in omega arith)) _ _ (g.S.Source.faults c.args.source.now) (g.S.Source.faults c.read.new.self) c.take_end.result c.take_end.ensures.stopped.no_read_fault c.take_end.ensures.tells c.take_end.ensures.led c.take_end.ensures.line
+    (c.in-Ok.ensures.end c.if-count-eq0.true (let kept = c.read.auto.buf in let piece = c.loop-count.invariant.piece in omega arith)) _ _ (g.S.Source.faults c.args.source.now) (g.S.Source.faults c.read.new.self) (c.in-Ok.ensures.faultless ∙ c.loop-count.invariant.source_faultless) c.take_end.result c.take_end.ensures.stopped.no_read_fault c.take_end.ensures.tells c.take_end.ensures.led c.take_end.ensures.line
 
 pub returns-in-Err-clause-ran : goal.returns-in-Err-clause-ran
 returns-in-Err-clause-ran g c =
     far_stop (reading_of c.args.session.now) (reading_of c.loop-count.session) (g.S.Source.left c.args.source.now) (g.S.Source.left c.loop-count.source) (g.S.Source.left c.read.new.self) (g.K.Sink.written c.args.sink.now) (g.K.Sink.written c.loop-count.sink) c.loop-count.invariant.far
-    (take c.in-Ok.count c.read.new.buf) c.in-Ok.ensures.bytes _ _ (g.S.Source.faults c.args.source.now) (g.S.Source.faults c.read.new.self) c.in-Err.status (λ e. c.in-Err.ensures.stopped.no_read_fault (ap Err e)) c.in-Err.ensures.tells c.in-Err.ensures.led c.in-Err.ensures.failed
+    (take c.in-Ok.count c.read.new.buf) c.in-Ok.ensures.bytes _ _ (g.S.Source.faults c.args.source.now) (g.S.Source.faults c.read.new.self) (c.in-Ok.ensures.faultless ∙ c.loop-count.invariant.source_faultless) c.in-Err.status (λ e. c.in-Err.ensures.stopped.no_read_fault (ap Err e)) c.in-Err.ensures.tells c.in-Err.ensures.led c.in-Err.ensures.failed
 
 pub loop-count-preserved : goal.loop-count-preserved
 loop-count-preserved g c =
