@@ -1,5 +1,5 @@
 use Rattle.std.proofs.Common.{◌≡◌, ◌≢◌, ℕ, List, [], ◌∷◌, ◌++◌, Option, None, Some, refl, ap, append_assoc, append-nil, sym, ◌∙◌}
-use Rattle.std.specs.Io.KnownBytes.{append_known, prepend_known}
+use Rattle.std.specs.Io.KnownBytes.{append_known}
 use Rattle.io_edges.specs.Telling.{Goes, Stops, Fails}
 
 -- no bytes more
@@ -82,15 +82,3 @@ fails_within more comes fails = record { unwritten = fails.unwritten ++ more; go
 pub fails_further : {before between after : Option (List ℕ)} {coming coming_then : List ℕ} →
     Goes before between coming coming_then → Fails between after coming_then → Fails before after coming
 fails_further goes fails = record { unwritten = fails.unwritten; goes = goes_further goes fails.goes; some = fails.some }
-
--- what a source that tells its bytes has left behind those that were taken
-pub record Rest (left : Option (List ℕ)) (bytes taken : List ℕ) : Type 0 where
-  pub rest : List ℕ
-  pub left_is : left ≡ Some rest
-  pub bytes_are : bytes ≡ taken ++ rest
-
--- a source that tells its bytes goes on telling them
-pub rest_of : {before after : Option (List ℕ)} {taken bytes : List ℕ} →
-    before ≡ prepend_known taken after → before ≡ Some bytes → Rest after bytes taken
-rest_of {after = None} read told = absurd (cc (sym told ∙ read))
-rest_of {after = Some rest} read told = record { rest = rest; left_is = refl; bytes_are = cc (sym told ∙ read) }

@@ -78,7 +78,7 @@ module _ (r : Reading) (command : Command) (plain : IsPlainCommand (Some command
 
   command_stops : (status : Status) (b : Bool) → ending b ≡ Err status → status ≢ Done
   command_stops status true e is = let same : Limit (r.lines + 1) ≡ status = cc in let wrong : Limit (r.lines + 1) ≡ Done = same ∙ is in cc
-  command_stops status false e is = let wrong : Ok (record { world = done.world; lines = r.lines + 1; line = [] }) ≡ Err status = e in cc
+  command_stops status false e is = cc
 
   command_follows : Follows r (command_told r command done)
   command_follows = record {
