@@ -3,9 +3,11 @@ use Rattle.std.proofs.Common.{◌≡◌, ℕ, ◌+◌, ◌^◌, ◌<◌, ◌≤�
 use Rattle.std.specs.List.{list_any}
 use Rattle.std.proofs.lemmas.Bool.{cond_both, or_parts, not-true, not_from_false}
 use Rattle.std.proofs.lemmas.List.{length_push}
-use Rattle.lazy_rules.specs.Flight.{Batch, flight_limit, batch_limit, batch_end, flight_end, new_batch, with_batch, is_placing_to, is_ordering_to, has_placing, has_ordering, answered_by, with_place, with_order, has_all, now_ordering, passed}
+use Rattle.lazy_rules.specs.Flight.{Batch, batch_end, flight_end, new_batch, with_batch, is_placing_to, is_ordering_to, has_placing, has_ordering, answered_by, with_place, with_order, has_all, now_ordering, passed}
 use Rattle.binder.specs.Binding.{placed_flight, ordered_flight}
 use Rattle.binder.specs.Sound.{flight_start, IsNext, IsChain, are_ordered_first, IsFlight}
+use Rattle.lazy_msgs.specs.declared.limits.TheConstants.{BATCH_LIMIT}
+use Rattle.lazy_rules.specs.declared.limits.TheConstants.{FLIGHT_LIMIT}
 
 -- ---- the same places
 abbrev pub SameSpans : List Batch → List Batch → Type 0
@@ -168,7 +170,7 @@ flight_passed shards xs flight =
 pub flight_none : IsFlight []
 flight_none = record { few = omega arith; chain = tt; ordered_first = refl }
 
-pub flight_begun : (from count : ℕ) (xs : List Batch) → length xs < flight_limit → 1 ≤ count → count ≤ batch_limit → flight_end from xs ≡ from → from + count < 2 ^ 32
+pub flight_begun : (from count : ℕ) (xs : List Batch) → length xs < FLIGHT_LIMIT → 1 ≤ count → count ≤ BATCH_LIMIT → flight_end from xs ≡ from → from + count < 2 ^ 32
     → IsFlight xs → IsFlight (with_batch xs from count)
 flight_begun from count [] room some most next within flight = record {
   few = omega arith;

@@ -1,8 +1,9 @@
 use Rattle.std.specs.Prelude.{ℕ, ◌≡◌, ◌<◌, ◌≤◌, true, eqb, List, [], ◌∷◌, ◌+◌, length, map}
 use Rattle.std.specs.List.{IsDistinct}
-use Rattle.lazy_rules.specs.Flight.{Batch, Probe, flight_limit}
+use Rattle.lazy_rules.specs.Flight.{Batch, Probe}
 use Rattle.lazy_rules.specs.Rows.{has_node}
 use Rattle.binder.specs.Sound.{IsFlight}
+use Rattle.lazy_rules.specs.declared.limits.TheConstants.{FLIGHT_LIMIT}
 
 -- the answers of nodes that are numbered below a count
 pub record Answering : Type 0 where
@@ -46,7 +47,7 @@ clients probes = map (λ probe. probe.client) probes
 pub record IsKept (shards followers : ℕ) (flight spare : List Held) (flight_room spare_room : ℕ) : Type 0 where
   pub flying : AllFor shards followers flight
   pub waiting : AllFor shards followers spare
-  pub four : length flight + length spare ≡ flight_limit
-  pub fits : flight_limit ≤ flight_room
-  pub spare_fits : flight_limit ≤ spare_room
+  pub four : length flight + length spare ≡ FLIGHT_LIMIT
+  pub fits : FLIGHT_LIMIT ≤ flight_room
+  pub spare_fits : FLIGHT_LIMIT ≤ spare_room
   pub sound : IsFlight (batches flight)

@@ -1,6 +1,8 @@
 use Rattle.std.specs.Prelude.{ℕ, ◌≡◌, ◌^◌, ◌<◌, ◌≤◌, List, [], ◌∷◌, length, Bool, true, not, if◌then◌else◌}
 use Rattle.std.specs.List.{list_any}
-use Rattle.lazy_rules.specs.Flight.{Batch, flight_limit, batch_limit, batch_end}
+use Rattle.lazy_rules.specs.Flight.{Batch, batch_end}
+use Rattle.lazy_msgs.specs.declared.limits.TheConstants.{BATCH_LIMIT}
+use Rattle.lazy_rules.specs.declared.limits.TheConstants.{FLIGHT_LIMIT}
 
 -- where the first batch begins
 abbrev pub flight_start : List Batch → ℕ
@@ -11,7 +13,7 @@ flight_start (batch ∷ others) = batch.from
 pub record IsNext (from : ℕ) (batch : Batch) : Type 0 where
   pub begins : batch.from ≡ from
   pub some : 1 ≤ batch.count
-  pub most : batch.count ≤ batch_limit
+  pub most : batch.count ≤ BATCH_LIMIT
   pub within : batch_end batch < 2 ^ 32
 
 -- batches from this position on, each of which begins where the one before it ends
@@ -27,6 +29,6 @@ are_ordered_first (batch ∷ others) =
 
 -- what is true of every flight
 pub record IsFlight (flight : List Batch) : Type 0 where
-  pub few : length flight ≤ flight_limit
+  pub few : length flight ≤ FLIGHT_LIMIT
   pub chain : IsChain (flight_start flight) flight
   pub ordered_first : are_ordered_first flight ≡ true

@@ -1,7 +1,7 @@
 //! The binder itself.
 
 ghost use Rattle.std.specs.Prelude.{◌≡◌, ℕ, ◌+◌, ◌^◌, ◌<◌, ◌≤◌, length, nat_lt, not, option_map, slice_get, Some, IfOk, is_some};
-ghost use Rattle.lazy_rules.specs.Flight.{Probe, flight_limit, batch_limit, flight_end, with_batch, lacks_place, lacks_order, finish, after_finish, has_later_probe, greatest, ready, after_ready};
+ghost use Rattle.lazy_rules.specs.Flight.{Probe, flight_end, with_batch, lacks_place, lacks_order, finish, after_finish, has_later_probe, greatest, ready, after_ready};
 ghost use Rattle.binder.specs.Held.{AllFor};
 ghost use Rattle.binder.specs.Sound.{IsFlight};
 ghost use Rattle.binder.specs.Binding.{first_binding, outline, probe_of, placed_flight, placed_progress, ordered_flight, ordered_progress, probes_with};
@@ -11,11 +11,10 @@ use crate::flight::{order, place};
 use crate::probe::Probe;
 use crate::slot::Slot;
 use crate::waiting::Reads;
+use lazy_msgs::BATCH_LIMIT;
+use lazy_rules::FLIGHT_LIMIT;
 use std::alloc::{AllocError, Global};
 use std::marker::Model;
-
-/// How many batches are on their way at most.
-const FLIGHT_LIMIT: usize = 4;
 
 /// The batches of a leader that are on their way, at most four, and the reads that wait, at most one
 /// of each client. No call but [`Binder::new`] takes memory.
@@ -43,9 +42,9 @@ impl Model for Binder {
 /// Room for as many batches as are on their way at most.
 fn room(alloc: Global, shards: u32, followers: u32) -> Result<Vec<Slot>, AllocError>
     ensures all { IfOk result (λ made. AllFor shards followers made.items) }
-    ensures count { IfOk result (λ made. length made.items ≡ flight_limit) }
+    ensures count { IfOk result (λ made. length made.items ≡ FLIGHT_LIMIT) }
 {
-    let mut room = Vec::with_capacity(alloc, FLIGHT_LIMIT)?;
+    let mut room = Vec::with_capacity(alloc, FLIGHT_LIMIT as usize)?;
     for _slot in 0..FLIGHT_LIMIT {
         room.push(Slot::new(alloc, shards, followers)?)?;
     }
@@ -63,7 +62,7 @@ impl Binder {
         Ok(Binder {
             shards,
             followers,
-            flight: Vec::with_capacity(alloc, FLIGHT_LIMIT)?,
+            flight: Vec::with_capacity(alloc, FLIGHT_LIMIT as usize)?,
             spare: room(alloc, shards, followers)?,
             reads: Reads::new(alloc)?,
         })
@@ -88,9 +87,9 @@ impl Binder {
 
     /// A batch of `count` items begins at position `from`. Nobody has answered for it.
     pub fn begin(&mut self, from: u32, count: u32)
-        requires room { length self.old.flight < flight_limit }
+        requires room { length self.old.flight < FLIGHT_LIMIT }
         requires some { 1 ≤ count }
-        requires most { count ≤ batch_limit }
+        requires most { count ≤ BATCH_LIMIT }
         requires next { flight_end from self.old.flight ≡ from }
         requires within { from + count < 2 ^ 32 }
         ensures { self.new ≡ record self.old { flight = with_batch self.old.flight from count } }

@@ -5,11 +5,11 @@ use Rattle.law_cases.proofs.Clauses.{dec_unique_at, dec_unique_row, dec_unique, 
 use Rattle.law_cases.proofs.ReadClauses.{dec_slices_at, dec_slices, dec_covered_at, dec_covered_row, dec_covered, dec_tails_at, dec_tails_row, dec_tails, dec_behind_at, dec_behind_row, dec_behind, dec_trims_at, dec_trims}
 use Rattle.law_cases.specs.BrokenBy.{BrokenBy}
 use Rattle.rec_id.specs.Lawful.{Lawful}
-use Rattle.rec_id.specs.Verdict.{Clause, unique, invoked, finished, ordered, slices, covered, tails_never_fall, behind_read, trims, number_of, HoldsAt, Holds, IsPairBefore, IsFirstBroken}
+use Rattle.rec_id.specs.Verdict.{Clause, unique, invoked, finished, ordered, slices, covered, tails_never_fall, behind_read, trims, number_of, IsMetAt, IsMet, IsPairBefore, IsFirstBroken}
 use Rattle.rec_id.specs.declared.entry.Entry.{Entry}
 use Rattle.rec_id.specs.declared.event.Event.{Event}
 
-abbrev pub dec_holds_at : (clause : Clause) (history : List Event) (line : List Entry) (i j : ℕ) → Dec (HoldsAt clause history line i j)
+abbrev pub dec_holds_at : (clause : Clause) (history : List Event) (line : List Entry) (i j : ℕ) → Dec (IsMetAt clause history line i j)
 dec_holds_at unique history line i j = dec_unique_at line i j
 dec_holds_at invoked history line i j = dec_invoked_at history line i
 dec_holds_at finished history line i j = dec_finished_at history line i
@@ -23,7 +23,7 @@ dec_holds_at trims history line i j = dec_trims_at history i
 abbrev pub dec_row_of : {P : Type 0} → Dec P → Dec (ℕ → P)
 dec_row_of d = dec_like (λ p _. p) (λ f. f 0) d
 
-abbrev pub dec_row : (clause : Clause) (history : List Event) (line : List Entry) (i : ℕ) → Dec ((j : ℕ) → HoldsAt clause history line i j)
+abbrev pub dec_row : (clause : Clause) (history : List Event) (line : List Entry) (i : ℕ) → Dec ((j : ℕ) → IsMetAt clause history line i j)
 dec_row unique history line i = dec_unique_row line i
 dec_row invoked history line i = dec_row_of (dec_invoked_at history line i)
 dec_row finished history line i = dec_row_of (dec_finished_at history line i)
@@ -34,7 +34,7 @@ dec_row tails_never_fall history line i = dec_tails_row history i
 dec_row behind_read history line i = dec_behind_row history line i
 dec_row trims history line i = dec_row_of (dec_trims_at history i)
 
-abbrev pub dec_holds : (clause : Clause) (history : List Event) (line : List Entry) → Dec (Holds clause history line)
+abbrev pub dec_holds : (clause : Clause) (history : List Event) (line : List Entry) → Dec (IsMet clause history line)
 dec_holds unique history line = dec_unique line
 dec_holds invoked history line = dec_invoked history line
 dec_holds finished history line = dec_finished history line
@@ -92,32 +92,32 @@ abbrev pub dec_broken_by : (clause : Clause) (history : List Event) (line : List
 dec_broken_by clause history line =
     dec_like (λ h. record { broken = h.0; others = h.1 }) (λ h. (h.broken, h.others))
     (dec_and (dec_not (dec_holds clause history line))
-    (dec_clauses (λ other. other ≢ clause → Holds other history line) (λ other. dec_implies (dec_not (dec_clause other clause)) (dec_holds other history line))))
+    (dec_clauses (λ other. other ≢ clause → IsMet other history line) (λ other. dec_implies (dec_not (dec_clause other clause)) (dec_holds other history line))))
 
 abbrev pub dec_lawful : (history : List Event) (line : List Entry) → Dec (Lawful history line)
 dec_lawful history line =
     dec_like
     (λ h. record { unique = h unique; invoked = h invoked; finished = h finished; ordered = h ordered; slices = h slices; covered = h covered; tails_never_fall = h tails_never_fall; behind_read = h behind_read; trims = h trims })
-    (λ h. clauses_to (λ clause. Holds clause history line) (h.unique, (h.invoked, (h.finished, (h.ordered, (h.slices, (h.covered, (h.tails_never_fall, (h.behind_read, h.trims)))))))))
-    (dec_clauses (λ clause. Holds clause history line) (λ clause. dec_holds clause history line))
+    (λ h. clauses_to (λ clause. IsMet clause history line) (h.unique, (h.invoked, (h.finished, (h.ordered, (h.slices, (h.covered, (h.tails_never_fall, (h.behind_read, h.trims)))))))))
+    (dec_clauses (λ clause. IsMet clause history line) (λ clause. dec_holds clause history line))
 
 least_to : (P : ℕ → ℕ → Type 0) (first second : ℕ) → ((i : ℕ) → i < first → (j : ℕ) → P i j) × ((j : ℕ) → j < second → P first j) → (i j : ℕ) → IsPairBefore i j first second → P i j
 least_to P first second h i j (inl lt) = h.0 i lt j
 least_to P first second h i j (inr e) = subst (λ (k : ℕ). P k j) (sym e.0) (h.1 j e.1)
 
-pub first_to : (clause : Clause) (history : List Event) (line : List Entry) (first second : ℕ) → ((other : Clause) → number_of other < number_of clause → Holds other history line) × ((¬ HoldsAt clause history line first second) × (((i : ℕ) → i < first → (j : ℕ) → HoldsAt clause history line i j) × ((j : ℕ) → j < second → HoldsAt clause history line first j))) → IsFirstBroken history line clause first second
-first_to clause history line first second h = record { earlier = h.0; broken = h.1.0; least = least_to (HoldsAt clause history line) first second h.1.1 }
+pub first_to : (clause : Clause) (history : List Event) (line : List Entry) (first second : ℕ) → ((other : Clause) → number_of other < number_of clause → IsMet other history line) × ((¬ IsMetAt clause history line first second) × (((i : ℕ) → i < first → (j : ℕ) → IsMetAt clause history line i j) × ((j : ℕ) → j < second → IsMetAt clause history line first j))) → IsFirstBroken history line clause first second
+first_to clause history line first second h = record { earlier = h.0; broken = h.1.0; least = least_to (IsMetAt clause history line) first second h.1.1 }
 
-pub first_from : (clause : Clause) (history : List Event) (line : List Entry) (first second : ℕ) → IsFirstBroken history line clause first second → ((other : Clause) → number_of other < number_of clause → Holds other history line) × ((¬ HoldsAt clause history line first second) × (((i : ℕ) → i < first → (j : ℕ) → HoldsAt clause history line i j) × ((j : ℕ) → j < second → HoldsAt clause history line first j)))
+pub first_from : (clause : Clause) (history : List Event) (line : List Entry) (first second : ℕ) → IsFirstBroken history line clause first second → ((other : Clause) → number_of other < number_of clause → IsMet other history line) × ((¬ IsMetAt clause history line first second) × (((i : ℕ) → i < first → (j : ℕ) → IsMetAt clause history line i j) × ((j : ℕ) → j < second → IsMetAt clause history line first j)))
 first_from clause history line first second h = (h.earlier, (h.broken, (λ i lt j. h.least i j (inl lt), λ j lt. h.least first j (inr (refl, lt)))))
 
 abbrev pub dec_first_broken : (history : List Event) (line : List Entry) (clause : Clause) (first second : ℕ) → Dec (IsFirstBroken history line clause first second)
 dec_first_broken history line clause first second =
     dec_like (first_to clause history line first second) (first_from clause history line first second)
-    (dec_and (dec_clauses (λ other. number_of other < number_of clause → Holds other history line) (λ other. dec_implies (dec_lt (number_of other) (number_of clause)) (dec_holds other history line)))
+    (dec_and (dec_clauses (λ other. number_of other < number_of clause → IsMet other history line) (λ other. dec_implies (dec_lt (number_of other) (number_of clause)) (dec_holds other history line)))
     (dec_and (dec_not (dec_holds_at clause history line first second))
-    (dec_and (dec_below first (λ i. (j : ℕ) → HoldsAt clause history line i j) (dec_row clause history line))
-    (dec_below second (λ j. HoldsAt clause history line first j) (dec_holds_at clause history line first)))))
+    (dec_and (dec_below first (λ i. (j : ℕ) → IsMetAt clause history line i j) (dec_row clause history line))
+    (dec_below second (λ j. IsMetAt clause history line first j) (dec_holds_at clause history line first)))))
 
 -- what the tests tell
 

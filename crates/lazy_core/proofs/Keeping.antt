@@ -9,14 +9,15 @@ use Rattle.lazy_rules.specs.ClientRules.{client_took}
 use Rattle.lazy_rules.specs.SeqState.{SeqState}
 use Rattle.lazy_rules.specs.SeqRules.{seq_took}
 use Rattle.lazy_rules.specs.WorldState.{WorldState}
-use Rattle.lazy_rules.specs.WorldRules.{client_did, seq_did, messages_limit}
+use Rattle.lazy_rules.specs.WorldRules.{client_did, seq_did}
 use Rattle.lazy_core.specs.Early.{IsSound, IsInFirstView, IsDue}
 use Rattle.lazy_core.specs.Happens.{IsWithinRoom}
 use Rattle.lazy_core.proofs.Rows.{append_leaves, ack_notes}
 use Rattle.lazy_core.proofs.Soundness.{sound_client, sound_seq, sound_stepped}
+use Rattle.lazy_rules.specs.declared.limits.TheConstants.{MESSAGES_LIMIT}
 
 -- a replica's step on an append keeps a world sound
-pub append_sound : (w : WorldState) (node i room received from view : ℕ) (id : Identity) (bytes : Option (List ℕ)) (seq : SeqState) → IsSound w → seq ≡ get_or w.seqs i seq → i < length w.seqs → node < length w.times → received ≤ w.events → length w.sent + room ≤ messages_limit → IsWithinRoom room w (seq_did w node i received (seq_took seq from (Append view id bytes))) → IsSound (seq_did w node i received (seq_took seq from (Append view id bytes)))
+pub append_sound : (w : WorldState) (node i room received from view : ℕ) (id : Identity) (bytes : Option (List ℕ)) (seq : SeqState) → IsSound w → seq ≡ get_or w.seqs i seq → i < length w.seqs → node < length w.times → received ≤ w.events → length w.sent + room ≤ MESSAGES_LIMIT → IsWithinRoom room w (seq_did w node i received (seq_took seq from (Append view id bytes))) → IsSound (seq_did w node i received (seq_took seq from (Append view id bytes)))
 append_sound w node i room received from view id bytes seq h is there timed past few within =
     let shaped : seq.shape ≡ w.shape = rw is (All-get_or (λ (s : SeqState). s.shape ≡ w.shape) w.seqs i seq there h.seqs_shaped) in
     let row = seq_took seq from (Append view id bytes) in
@@ -27,7 +28,7 @@ append_sound w node i room received from view id bytes seq h is there timed past
     (record { in_number = omega (arith, within.in_number); in_weight = within.in_weight })
 
 -- a client's step on an acknowledgement keeps a world sound
-pub ack_sound : (w : WorldState) (c room received from view : ℕ) (id : Identity) (client : ClientState) → IsSound w → client ≡ get_or w.clients c client → c < length w.clients → c < length w.times → received ≤ w.events → length w.sent + room ≤ messages_limit → IsWithinRoom room w (client_did w c received (client_took client from (AppendAck view id))) → IsSound (client_did w c received (client_took client from (AppendAck view id)))
+pub ack_sound : (w : WorldState) (c room received from view : ℕ) (id : Identity) (client : ClientState) → IsSound w → client ≡ get_or w.clients c client → c < length w.clients → c < length w.times → received ≤ w.events → length w.sent + room ≤ MESSAGES_LIMIT → IsWithinRoom room w (client_did w c received (client_took client from (AppendAck view id))) → IsSound (client_did w c received (client_took client from (AppendAck view id)))
 ack_sound w c room received from view id client h is there timed past few within =
     let first : IsInFirstView w.shape client = rw is (All-get_or (IsInFirstView w.shape) w.clients c client there h.clients_first) in
     let row = client_took client from (AppendAck view id) in

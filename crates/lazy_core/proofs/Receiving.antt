@@ -11,10 +11,11 @@ use Rattle.lazy_msgs.specs.Step.{Row, StepsTo}
 use Rattle.lazy_rules.specs.ClientState.{ClientState}
 use Rattle.lazy_rules.specs.SeqState.{SeqState}
 use Rattle.lazy_rules.specs.WorldState.{WorldState}
-use Rattle.lazy_rules.specs.WorldRules.{client_did, seq_did, step_time, sent_weight, weight_limit}
+use Rattle.lazy_rules.specs.WorldRules.{client_did, seq_did, step_time, sent_weight}
 use Rattle.lazy_core.specs.Happens.{HappensIn, IsWithinRoom}
 use Rattle.lazy_core.specs.Ledger.{LedgerState, Keeps, Adds}
 use Rattle.lazy_core.proofs.Steps.{room_for, room_from_fits, fits_from_room, refused_step, happened_so, made_client_did, made_seq_did, err_is, held_there, client_kept, seq_kept}
+use Rattle.lazy_rules.specs.declared.limits.TheConstants.{WEIGHT_LIMIT}
 
 -- What a node's step on a message is to its world. `row` is the rule.
 
@@ -35,13 +36,13 @@ client_made w c room received row held after out out_after before middle ledger 
     made_client_did w c received row (set w.clients c after) middle ledger (ap (set w.clients c) steps.state) (keeps.times ∙ times) (keeps.sent ∙ sent) (keeps.history ∙ history) (keeps.events ∙ events) adds_row
 
 -- within the room that was made
-pub client_within : (w : WorldState) (c room received : ℕ) (row : Row ClientState) (held after : ClientState) (out out_after : Out) → out ≡ room_for w room → StepsTo {R = Unit {0}} {E = StepRefused} row held after out out_after (Ok tt) Over → sent_weight w.sent ≤ weight_limit → IsWithinRoom room w (client_did w c received row)
+pub client_within : (w : WorldState) (c room received : ℕ) (row : Row ClientState) (held after : ClientState) (out out_after : Out) → out ≡ room_for w room → StepsTo {R = Unit {0}} {E = StepRefused} row held after out out_after (Ok tt) Over → sent_weight w.sent ≤ WEIGHT_LIMIT → IsWithinRoom room w (client_did w c received row)
 client_within w c room received row held after out out_after made steps light =
     let fits : Fits row.sends (room_for w room) = rw (← made) steps.fits in
     room_from_fits w (client_did w c received row) room c (step_time w c received) row.sends refl light fits
 
 -- and happened as the rules give it
-pub client_happened : (w : WorldState) (c room received : ℕ) (row : ClientState → Row ClientState) (client held after : ClientState) (out out_after : Out) (before middle ledger : LedgerState) → slice_get w.clients c ≡ Some client → held ≡ get_or w.clients c held → out ≡ room_for w room → StepsTo {R = Unit {0}} {E = StepRefused} (row held) held after out out_after (Ok tt) Over → sent_weight w.sent ≤ weight_limit → before.times ≡ w.times → before.sent ≡ w.sent → before.history ≡ w.history → before.events ≡ w.events → Keeps before middle → Adds c received out_after.sends out_after.events middle ledger → HappensIn (IsWithinRoom room w (client_did w c received (row client))) (client_did w c received (row client)) None w (record w { clients = set w.clients c after; times = ledger.times; sent = ledger.sent; history = ledger.history; events = ledger.events }) (Ok tt)
+pub client_happened : (w : WorldState) (c room received : ℕ) (row : ClientState → Row ClientState) (client held after : ClientState) (out out_after : Out) (before middle ledger : LedgerState) → slice_get w.clients c ≡ Some client → held ≡ get_or w.clients c held → out ≡ room_for w room → StepsTo {R = Unit {0}} {E = StepRefused} (row held) held after out out_after (Ok tt) Over → sent_weight w.sent ≤ WEIGHT_LIMIT → before.times ≡ w.times → before.sent ≡ w.sent → before.history ≡ w.history → before.events ≡ w.events → Keeps before middle → Adds c received out_after.sends out_after.events middle ledger → HappensIn (IsWithinRoom room w (client_did w c received (row client))) (client_did w c received (row client)) None w (record w { clients = set w.clients c after; times = ledger.times; sent = ledger.sent; history = ledger.history; events = ledger.events }) (Ok tt)
 client_happened w c room received row client held after out out_after before middle ledger there is made steps light times sent history events keeps adds =
     let here : held ≡ client = held_there w.clients c held client there is in
     rw (client_made w c room received (row held) held after out out_after before middle ledger made steps times sent history events keeps adds, ← here)
@@ -63,12 +64,12 @@ seq_made w node i room received row held after out out_after before middle ledge
     let adds_row : Adds node received row.sends row.events middle ledger = subst (λ (o : Out). Adds node received o.sends o.events middle ledger) is adds in
     made_seq_did w node i received row (set w.seqs i after) middle ledger (ap (set w.seqs i) steps.state) (keeps.times ∙ times) (keeps.sent ∙ sent) (keeps.history ∙ history) (keeps.events ∙ events) adds_row
 
-pub seq_within : (w : WorldState) (node i room received : ℕ) (row : Row SeqState) (held after : SeqState) (out out_after : Out) → out ≡ room_for w room → StepsTo {R = Unit {0}} {E = StepRefused} row held after out out_after (Ok tt) Over → sent_weight w.sent ≤ weight_limit → IsWithinRoom room w (seq_did w node i received row)
+pub seq_within : (w : WorldState) (node i room received : ℕ) (row : Row SeqState) (held after : SeqState) (out out_after : Out) → out ≡ room_for w room → StepsTo {R = Unit {0}} {E = StepRefused} row held after out out_after (Ok tt) Over → sent_weight w.sent ≤ WEIGHT_LIMIT → IsWithinRoom room w (seq_did w node i received row)
 seq_within w node i room received row held after out out_after made steps light =
     let fits : Fits row.sends (room_for w room) = rw (← made) steps.fits in
     room_from_fits w (seq_did w node i received row) room node (step_time w node received) row.sends refl light fits
 
-pub seq_happened : (w : WorldState) (node i room received : ℕ) (row : SeqState → Row SeqState) (seq held after : SeqState) (out out_after : Out) (before middle ledger : LedgerState) → slice_get w.seqs i ≡ Some seq → held ≡ get_or w.seqs i held → out ≡ room_for w room → StepsTo {R = Unit {0}} {E = StepRefused} (row held) held after out out_after (Ok tt) Over → sent_weight w.sent ≤ weight_limit → before.times ≡ w.times → before.sent ≡ w.sent → before.history ≡ w.history → before.events ≡ w.events → Keeps before middle → Adds node received out_after.sends out_after.events middle ledger → HappensIn (IsWithinRoom room w (seq_did w node i received (row seq))) (seq_did w node i received (row seq)) None w (record w { seqs = set w.seqs i after; times = ledger.times; sent = ledger.sent; history = ledger.history; events = ledger.events }) (Ok tt)
+pub seq_happened : (w : WorldState) (node i room received : ℕ) (row : SeqState → Row SeqState) (seq held after : SeqState) (out out_after : Out) (before middle ledger : LedgerState) → slice_get w.seqs i ≡ Some seq → held ≡ get_or w.seqs i held → out ≡ room_for w room → StepsTo {R = Unit {0}} {E = StepRefused} (row held) held after out out_after (Ok tt) Over → sent_weight w.sent ≤ WEIGHT_LIMIT → before.times ≡ w.times → before.sent ≡ w.sent → before.history ≡ w.history → before.events ≡ w.events → Keeps before middle → Adds node received out_after.sends out_after.events middle ledger → HappensIn (IsWithinRoom room w (seq_did w node i received (row seq))) (seq_did w node i received (row seq)) None w (record w { seqs = set w.seqs i after; times = ledger.times; sent = ledger.sent; history = ledger.history; events = ledger.events }) (Ok tt)
 seq_happened w node i room received row seq held after out out_after before middle ledger there is made steps light times sent history events keeps adds =
     let here : held ≡ seq = held_there w.seqs i held seq there is in
     rw (seq_made w node i room received (row held) held after out out_after before middle ledger made steps times sent history events keeps adds, ← here)

@@ -9,11 +9,12 @@ use Rattle.lazy_msgs.specs.declared.msg.Envelope.{Envelope}
 use Rattle.lazy_msgs.specs.declared.msg.Msg.{Msg}
 use Rattle.lazy_rules.specs.ClientState.{ClientState, first_client}
 use Rattle.lazy_rules.specs.SeqState.{SeqState, first_seq}
-use Rattle.lazy_rules.specs.WorldState.{WorldState, first_world, node_count}
+use Rattle.lazy_rules.specs.WorldState.{WorldState, first_world}
 use Rattle.lazy_rules.specs.WorldRules.{IsWithinLimits, stepped, step_time, enveloped}
 use Rattle.lazy_core.specs.WorldView.{first_readers, first_shards}
 use Rattle.lazy_rules.specs.ControlState.{first_control}
 use Rattle.lazy_core.specs.Early.{IsSound, IsEarly, IsDue, IsInFirstView}
+use Rattle.view_config.specs.Nodes.{node_count}
 
 -- a world at first is sound
 pub sound_first : (shape : Dimensions) → IsShape shape → IsSound (first_world shape)

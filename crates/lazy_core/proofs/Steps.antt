@@ -21,9 +21,10 @@ use Rattle.lazy_msgs.specs.Weight.{weight_of, sends_weight}
 use Rattle.lazy_rules.specs.ClientState.{ClientState}
 use Rattle.lazy_rules.specs.SeqState.{SeqState}
 use Rattle.lazy_rules.specs.WorldState.{WorldState}
-use Rattle.lazy_rules.specs.WorldRules.{enveloped, client_did, seq_did, posting_refused, sent_weight, weight_limit}
+use Rattle.lazy_rules.specs.WorldRules.{enveloped, client_did, seq_did, posting_refused, sent_weight}
 use Rattle.lazy_core.specs.Happens.{HappensIn, IsWithinRoom}
 use Rattle.lazy_core.specs.Ledger.{LedgerState, Keeps, Adds}
+use Rattle.lazy_rules.specs.declared.limits.TheConstants.{WEIGHT_LIMIT}
 
 -- so many messages more were sent
 pub length_sent : (sent : List Envelope) (from time : ℕ) (sends : List (ℕ × Msg)) → length (sent ++ enveloped from time sends) ≡ length sent + length sends
@@ -40,10 +41,10 @@ weight_sent sent from time sends =
 
 -- an outbox for a step of a world that may send so many messages
 abbrev pub room_for : WorldState → ℕ → Out
-room_for w room = record { sends = []; events = []; messages_left = room; weight_left = weight_limit - sent_weight w.sent }
+room_for w room = record { sends = []; events = []; messages_left = room; weight_left = WEIGHT_LIMIT - sent_weight w.sent }
 
 -- a step whose messages fit is within the room
-pub room_from_fits : (w next : WorldState) (room from time : ℕ) (sends : List (ℕ × Msg)) → next.sent ≡ w.sent ++ enveloped from time sends → sent_weight w.sent ≤ weight_limit → Fits sends (room_for w room) → IsWithinRoom room w next
+pub room_from_fits : (w next : WorldState) (room from time : ℕ) (sends : List (ℕ × Msg)) → next.sent ≡ w.sent ++ enveloped from time sends → sent_weight w.sent ≤ WEIGHT_LIMIT → Fits sends (room_for w room) → IsWithinRoom room w next
 room_from_fits w next room from time sends is light fits = record {
   in_number = rw is (omega (arith, length_sent w.sent from time sends, fits.in_number));
   in_weight = rw is (omega (arith, weight_sent w.sent from time sends, fits.in_weight));
@@ -53,7 +54,7 @@ room_from_fits w next room from time sends is light fits = record {
 pub fits_from_room : (w next : WorldState) (room from time : ℕ) (sends : List (ℕ × Msg)) → next.sent ≡ w.sent ++ enveloped from time sends → IsWithinRoom room w next → Fits sends (room_for w room)
 fits_from_room w next room from time sends is within =
     let number : length (w.sent ++ enveloped from time sends) ≤ length w.sent + room = rw is at within.in_number in
-    let weight : sent_weight (w.sent ++ enveloped from time sends) ≤ weight_limit = rw is at within.in_weight in
+    let weight : sent_weight (w.sent ++ enveloped from time sends) ≤ WEIGHT_LIMIT = rw is at within.in_weight in
     record {
       in_number = omega (arith, length_sent w.sent from time sends);
       in_weight = omega (arith, weight_sent w.sent from time sends);

@@ -4,6 +4,7 @@ use Rattle.rec_id.specs.declared.entry.Entry.TheVariants.{Kept}
 use Rattle.rec_id.specs.declared.item.Item.{Item}
 use Rattle.view_config.specs.Config.{initial_config, first_seqs}
 use Rattle.view_config.specs.Shape.{Dimensions, IsShape}
+use Rattle.view_config.specs.declared.nodes.TheConstants.{FIRST_SEQ}
 use Rattle.lazy_msgs.specs.declared.msg.Envelope.{Envelope}
 use Rattle.lazy_msgs.specs.declared.msg.Msg.{Msg}
 use Rattle.lazy_msgs.specs.declared.msg.Msg.TheVariants.{Append, AppendAck}
@@ -11,14 +12,15 @@ use Rattle.lazy_rules.specs.ClientState.{ClientState}
 use Rattle.lazy_rules.specs.Rows.{has_node}
 use Rattle.lazy_rules.specs.SeqState.{SeqState}
 use Rattle.lazy_rules.specs.WorldRules.{IsWithinLimits}
-use Rattle.lazy_rules.specs.WorldState.{WorldState, node_count}
+use Rattle.lazy_rules.specs.WorldState.{WorldState}
+use Rattle.view_config.specs.Nodes.{node_count}
 
 -- Worlds in which nothing but appends has happened yet, in Erwin-m.
 
 -- a sequencing replica of the shape has this number
 pub record IsSeqNode (shape : Dimensions) (node : ℕ) : Type 0 where
-  pub least : 257 ≤ node
-  pub most : node < 257 + shape.seq + shape.spares
+  pub least : FIRST_SEQ ≤ node
+  pub most : node < FIRST_SEQ + shape.seq + shape.spares
 
 -- a message that appends alone bring, at the node that it is for
 abbrev pub IsDue : Dimensions → ℕ → Msg → Type 0

@@ -1,13 +1,14 @@
 use Rattle.std.specs.Prelude.{◌≡◌, ◌≢◌, ℕ, ◌+◌, ◌≤◌, length, Option, Some, None, Result, Err, OnOk, OnErr, IfErr}
 use Rattle.lazy_msgs.specs.declared.refused.EventRefused.{EventRefused}
 use Rattle.lazy_msgs.specs.declared.refused.EventRefused.TheVariants.{Spent, Memory}
-use Rattle.lazy_rules.specs.WorldRules.{weight_limit, sent_weight}
+use Rattle.lazy_rules.specs.WorldRules.{sent_weight}
 use Rattle.lazy_rules.specs.WorldState.{WorldState}
+use Rattle.lazy_rules.specs.declared.limits.TheConstants.{WEIGHT_LIMIT}
 
 -- so many messages more were sent at most, and all weigh no more than a world's may
 pub record IsWithinRoom (room : ℕ) (before next : WorldState) : Type 0 where
   pub in_number : length next.sent ≤ length before.sent + room
-  pub in_weight : sent_weight next.sent ≤ weight_limit
+  pub in_weight : sent_weight next.sent ≤ WEIGHT_LIMIT
 
 -- an event happened as the rules give it, or was refused and left all as it was: for the reason that
 -- the rules give, or as spent where it would have sent more than `Fits` lets it

@@ -13,13 +13,14 @@ ghost use Rattle.lazy_msgs.specs.declared.input.WorldEvent.TheVariants.{Post, De
 ghost use Rattle.lazy_msgs.specs.declared.msg.Msg.TheVariants.{Append, AppendAck};
 ghost use Rattle.log_safety.specs.Built.{IsBuilt};
 ghost use Rattle.lazy_core.specs.Early.{IsSeqNode, IsEarly};
-ghost use Rattle.lazy_rules.specs.WorldRules.{IsWithinLimits, after, refusal, received, delivery_to_refused, client_did, seq_did, posting_refused, messages_limit};
+ghost use Rattle.lazy_rules.specs.WorldRules.{IsWithinLimits, after, refusal, received, delivery_to_refused, client_did, seq_did, posting_refused};
 ghost use Rattle.lazy_core.specs.Happens.{HappensIn, IsWithinRoom};
 
-use crate::MESSAGES_LIMIT;
 use crate::nodes::Nodes;
 use lazy_msgs::{Envelope, EventRefused, Msg, WorldEvent};
+use lazy_rules::MESSAGES_LIMIT;
 use rec_id::{Bytes, RecordId};
+use view_config::FIRST_SEQ;
 
 /// For how many messages an event is tried at first, and how many times more at each further try.
 const FIRST_ROOM: u32 = 64;
@@ -32,7 +33,7 @@ impl Nodes {
         requires there { c < length self.old.clients }
         requires mode { self.old.shape.mode ≡ M }
         requires countable { self.old.events + 1 < 2 ^ 32 }
-        requires room { length self.old.sent + room ≤ messages_limit }
+        requires room { length self.old.sent + room ≤ MESSAGES_LIMIT }
         ensures { (client : ClientState) → slice_get self.old.clients c ≡ Some client → HappensIn (IsWithinRoom room self.old (client_did self.old c 0 (invokes client bytes.now))) (client_did self.old c 0 (invokes client bytes.now)) (posting_refused (post_refusal client (length bytes.now))) self.old self.new result }
     {
         let bytes = bytes.clone()?;
@@ -55,11 +56,11 @@ impl Nodes {
         requires due { IsSeqNode self.old.shape envelope.now.to }
         requires past { envelope.now.time ≤ self.old.events }
         requires countable { self.old.events + 1 < 2 ^ 32 }
-        requires room { length self.old.sent + room ≤ messages_limit }
-        ensures { (seq : SeqState) → slice_get self.old.seqs (envelope.now.to - 257) ≡ Some seq → HappensIn (IsWithinRoom room self.old (seq_did self.old envelope.now.to (envelope.now.to - 257) envelope.now.time (seq_took seq envelope.now.from (Append view id bytes.now)))) (seq_did self.old envelope.now.to (envelope.now.to - 257) envelope.now.time (seq_took seq envelope.now.from (Append view id bytes.now))) None self.old self.new result }
+        requires room { length self.old.sent + room ≤ MESSAGES_LIMIT }
+        ensures { (seq : SeqState) → slice_get self.old.seqs (envelope.now.to - FIRST_SEQ) ≡ Some seq → HappensIn (IsWithinRoom room self.old (seq_did self.old envelope.now.to (envelope.now.to - FIRST_SEQ) envelope.now.time (seq_took seq envelope.now.from (Append view id bytes.now)))) (seq_did self.old envelope.now.to (envelope.now.to - FIRST_SEQ) envelope.now.time (seq_took seq envelope.now.from (Append view id bytes.now))) None self.old self.new result }
     {
         let mut out = self.ledger.outbox(room)?;
-        let index = (envelope.to - 257) as usize;
+        let index = (envelope.to - FIRST_SEQ) as usize;
         let seq = &mut self.seqs[index];
         seq.append(envelope.from, view, id, bytes, &mut out)?;
         self.ledger.enter(envelope.to, envelope.time, out);
@@ -77,7 +78,7 @@ impl Nodes {
         requires due { envelope.now.to < length self.old.clients }
         requires past { envelope.now.time ≤ self.old.events }
         requires countable { self.old.events + 1 < 2 ^ 32 }
-        requires room { length self.old.sent + room ≤ messages_limit }
+        requires room { length self.old.sent + room ≤ MESSAGES_LIMIT }
         ensures { (client : ClientState) → slice_get self.old.clients envelope.now.to ≡ Some client → HappensIn (IsWithinRoom room self.old (client_did self.old envelope.now.to envelope.now.time (client_took client envelope.now.from (AppendAck view id)))) (client_did self.old envelope.now.to envelope.now.time (client_took client envelope.now.from (AppendAck view id))) None self.old self.new result }
     {
         let mut out = self.ledger.outbox(room)?;
@@ -91,7 +92,7 @@ impl Nodes {
     fn post(&mut self, c: u32, bytes: &Bytes, room: u32) -> Result<(), EventRefused>
         requires mode { self.old.shape.mode ≡ M }
         requires countable { self.old.events + 1 < 2 ^ 32 }
-        requires room { length self.old.sent + room ≤ messages_limit }
+        requires room { length self.old.sent + room ≤ MESSAGES_LIMIT }
         ensures { HappensIn (IsWithinRoom room self.old (after self.old (Post c bytes.now))) (after self.old (Post c bytes.now)) (refusal self.old (Post c bytes.now)) self.old self.new result }
     {
         if c as usize >= self.clients.len() {
@@ -107,7 +108,7 @@ impl Nodes {
     fn receive(&mut self, k: u32, envelope: &Envelope, room: u32) -> Result<(), EventRefused>
         requires early { IsEarly self.old.shape self.old.events envelope.now }
         requires countable { self.old.events + 1 < 2 ^ 32 }
-        requires room { length self.old.sent + room ≤ messages_limit }
+        requires room { length self.old.sent + room ≤ MESSAGES_LIMIT }
         ensures { HappensIn (IsWithinRoom room self.old (received self.old envelope.now (node_of self.old.shape envelope.now.to))) (received self.old envelope.now (node_of self.old.shape envelope.now.to)) (delivery_to_refused self.old k envelope.now.to envelope.now.msg) self.old self.new result }
     {
         if self.crashed.contains(&envelope.to) {
@@ -123,7 +124,7 @@ impl Nodes {
     /// Message `k` is delivered.
     fn deliver(&mut self, k: u32, room: u32) -> Result<(), EventRefused>
         requires countable { self.old.events + 1 < 2 ^ 32 }
-        requires room { length self.old.sent + room ≤ messages_limit }
+        requires room { length self.old.sent + room ≤ MESSAGES_LIMIT }
         ensures { HappensIn (IsWithinRoom room self.old (after self.old (Deliver k))) (after self.old (Deliver k)) (refusal self.old (Deliver k)) self.old self.new result }
     {
         let Some(envelope) = self.ledger.message(k) else {
@@ -137,7 +138,7 @@ impl Nodes {
     fn event_within(&mut self, event: &WorldEvent, room: u32) -> Result<(), EventRefused>
         requires built { IsBuilt self.old.shape event.now }
         requires countable { self.old.events + 1 < 2 ^ 32 }
-        requires room { length self.old.sent + room ≤ messages_limit }
+        requires room { length self.old.sent + room ≤ MESSAGES_LIMIT }
         ensures { HappensIn (IsWithinRoom room self.old (after self.old event.now)) (after self.old event.now) (refusal self.old event.now) self.old self.new result }
     {
         match event {

@@ -5,23 +5,19 @@
 
 ghost use Rattle.std.specs.Prelude.{◌≡◌, ◌+◌, ◌-◌, ◌^◌, ◌<◌, ◌≤◌, ◌++◌, [], length, max, replicate, slice_index, slice_set, vec_len, vec_capacity, IfOk, OnOk, option_copied};
 ghost use Rattle.lazy_msgs.specs.Weight.{sends_weight};
-ghost use Rattle.lazy_rules.specs.WorldRules.{enveloped, sent_weight, weight_limit, envelope_at};
-ghost use Rattle.lazy_rules.specs.WorldState.{node_count};
+ghost use Rattle.lazy_rules.specs.WorldRules.{enveloped, sent_weight, envelope_at};
 ghost use Rattle.lazy_core.specs.Ledger.{LedgerState, Keeps, Adds};
+ghost use Rattle.view_config.specs.Nodes.{node_count};
 
 use lazy_msgs::{Envelope, Outbox, SendList};
+use lazy_rules::WEIGHT_LIMIT;
 use rec_id::{Event, EventList};
 use std::alloc::{AllocError, Global};
 use std::marker::Model;
-
-/// How much the messages of a world weigh at most together.
-pub const WEIGHT_LIMIT: u64 = 268_435_456;
+use view_config::BOARD;
 
 /// How many events one step tells at most.
 const TOLD_LIMIT: usize = 2;
-
-/// One more than the greatest number of a node.
-const NODE_COUNT: usize = 296;
 
 /// The times of the nodes by their numbers, the messages sent, the events told, and how many events
 /// of the world were accepted.
@@ -37,13 +33,14 @@ pub(crate) struct Ledger {
 impl Model for Ledger {
     ghost use Rattle.std.specs.Prelude.{◌≡◌, ◌-◌, ◌≤◌, vec_len, vec_capacity};
     ghost use Rattle.lazy_core.specs.Ledger.{LedgerState};
-    ghost use Rattle.lazy_rules.specs.WorldRules.{sent_weight, weight_limit};
+    ghost use Rattle.lazy_rules.specs.WorldRules.{sent_weight};
+    ghost use Rattle.lazy_rules.specs.declared.limits.TheConstants.{WEIGHT_LIMIT};
 
     ghost Value = { LedgerState };
 
     ghost view = { λ a. record { times = a.times.items; sent = a.sent.items; history = a.history.items; events = a.events; message_room = vec_capacity a.sent - vec_len a.sent; event_room = vec_capacity a.history - vec_len a.history } };
 
-    ghost invariant = { λ a. (a.weight ≡ sent_weight a.sent.items) × (a.weight ≤ weight_limit) };
+    ghost invariant = { λ a. (a.weight ≡ sent_weight a.sent.items) × (a.weight ≤ WEIGHT_LIMIT) };
 }
 
 /// Raises the time of a node for a step that receives a message of this time, and tells the step's.
@@ -88,7 +85,7 @@ fn add_events(history: &mut Vec<Event>, told: EventList)
 fn first_times(alloc: Global) -> Result<Vec<u64>, AllocError>
     ensures { IfOk result (λ made. made.items ≡ replicate node_count 0) }
 {
-    Vec::from_elem(alloc, 0, NODE_COUNT)
+    Vec::from_elem(alloc, 0, BOARD as usize)
 }
 
 impl Ledger {
@@ -141,7 +138,7 @@ impl Ledger {
     /// Makes room for a step that sends so many messages at most, and an outbox for it.
     pub(crate) fn outbox(&mut self, room: u32) -> Result<Outbox, AllocError>
         ensures kept { Keeps self.old self.new }
-        ensures outbox { IfOk result (λ out. out ≡ record { sends = []; events = []; messages_left = room; weight_left = weight_limit - sent_weight self.old.sent }) }
+        ensures outbox { IfOk result (λ out. out ≡ record { sends = []; events = []; messages_left = room; weight_left = WEIGHT_LIMIT - sent_weight self.old.sent }) }
         ensures messages { OnOk result (room ≤ self.new.message_room) }
         ensures events { OnOk result (2 ≤ self.new.event_room) }
     {
@@ -156,7 +153,7 @@ impl Ledger {
     pub(crate) fn enter(&mut self, node: u32, received: u64, out: Outbox)
         requires messages { length out.sends ≤ self.old.message_room }
         requires told { length out.events ≤ self.old.event_room }
-        requires weight { sent_weight self.old.sent + sends_weight out.sends ≤ weight_limit }
+        requires weight { sent_weight self.old.sent + sends_weight out.sends ≤ WEIGHT_LIMIT }
         requires node { node < length self.old.times }
         requires own { slice_index self.old.times node + 1 < 2 ^ 64 }
         requires received { received + 1 < 2 ^ 64 }

@@ -13,9 +13,7 @@ mod trail;
 mod world;
 
 pub use append_client::{AppendClient, AppendState};
-pub use ledger::WEIGHT_LIMIT;
 pub use line::LineError;
-pub use nodes::MESSAGES_LIMIT;
 pub use seq_node::SeqNode;
-pub use trail::{Diary, DiaryEntry, DiaryList, EntryList, HolderLine, HolderLines, Trail};
+pub use trail::{HolderLine, HolderLines, Trail};
 pub use world::World;

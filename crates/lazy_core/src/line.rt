@@ -9,7 +9,7 @@ use crate::nodes::Nodes;
 use plain_lists::Sequence;
 use rec_id::{Bytes, Entry, Item, Line};
 use std::alloc::{AllocError, Global};
-use view_config::{Config, NodeList};
+use view_config::{Config, FIRST_SEQ, NodeList};
 
 /// Why there is no line.
 #[derive(Clone, Copy, Debug, PartialEq, Eq)]
@@ -79,7 +79,7 @@ impl Nodes {
     /// that no line is lost.
     pub(crate) fn line(&self, holder: u32) -> Result<Line, LineError>
         requires { has_node (holders_of self.now) holder ≡ true }
-        ensures line { (seq : SeqState) → slice_get self.now.seqs (holder - 257) ≡ Some seq → IfOk result (λ line. line ≡ line_of seq) }
+        ensures line { (seq : SeqState) → slice_get self.now.seqs (holder - FIRST_SEQ) ≡ Some seq → IfOk result (λ line. line ≡ line_of seq) }
         ensures never_lost { IfErr result (λ e. e ≡ LineError.Memory) }
     {
         let line = self.unbound_line(holder)?;
@@ -89,10 +89,10 @@ impl Nodes {
     /// What this sequencing replica has, none of which is bound.
     fn unbound_line(&self, node: u32) -> Result<Line, AllocError>
         requires { IsSeqNode self.now.shape node }
-        ensures { (seq : SeqState) → slice_get self.now.seqs (node - 257) ≡ Some seq → IfOk result (λ line. line ≡ line_of seq) }
+        ensures { (seq : SeqState) → slice_get self.now.seqs (node - FIRST_SEQ) ≡ Some seq → IfOk result (λ line. line ≡ line_of seq) }
     {
         let alloc = *self.crashed.allocator();
-        let index = (node - 257) as usize;
+        let index = (node - FIRST_SEQ) as usize;
         let seq = &self.seqs[index];
         entries_of(alloc, seq.pending())
     }

@@ -13,13 +13,11 @@ ghost use Rattle.lazy_rules.specs.WorldRules.{message_at};
 use crate::ledger::Ledger;
 use crate::{AppendClient, SeqNode};
 use lazy_msgs::Envelope;
+use lazy_rules::MESSAGES_LIMIT;
 use rec_id::Event;
 use std::alloc::{AllocError, Global};
 use std::marker::Model;
 use view_config::Shape;
-
-/// How many messages a world has at most.
-pub const MESSAGES_LIMIT: u32 = 1_048_576;
 
 /// The nodes of a shape and all that happened among them.
 #[derive(Drop)]

@@ -11,29 +11,10 @@ ghost use Rattle.lazy_core.specs.Filled.{AreLawful, IsFilled, spared_line, spare
 
 use crate::line::LineError;
 use crate::world::World;
-use lazy_msgs::{Input, SendList};
+use lazy_msgs::DiaryList;
 use plain_lists::Sequence;
 use rec_id::{Event, EventList, Line, Words};
 use std::alloc::{AllocError, Global};
-
-/// One step of a node: its Lamport time, what the node took, and what it sent.
-#[derive(Drop)]
-pub struct DiaryEntry {
-    pub time: u64,
-    pub input: Input,
-    pub sends: SendList,
-}
-
-pub type EntryList = Sequence<DiaryEntry>;
-
-/// The steps of one node, in order.
-#[derive(Drop)]
-pub struct Diary {
-    pub node: u32,
-    pub entries: EntryList,
-}
-
-pub type DiaryList = Sequence<Diary>;
 
 /// The line of a holder, by the holder's number.
 #[derive(Drop)]

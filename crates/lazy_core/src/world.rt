@@ -18,9 +18,10 @@ ghost use Rattle.lazy_core.specs.Happens.{HappensIn};
 ghost use Rattle.lazy_core.specs.Reached.{Appends, IsReached};
 ghost use Rattle.lazy_core.specs.declared.line.LineError.{LineError};
 
+use crate::LineError;
 use crate::nodes::Nodes;
-use crate::{LineError, MESSAGES_LIMIT};
 use lazy_msgs::{Envelope, EventRefused, WorldEvent};
+use lazy_rules::MESSAGES_LIMIT;
 use rec_id::{Event, Line};
 use std::alloc::{AllocError, Global};
 use std::marker::Model;

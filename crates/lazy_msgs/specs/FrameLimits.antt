@@ -12,7 +12,11 @@ use Rattle.rec_id.specs.declared.marks.Marks.{Marks}
 use Rattle.view_config.specs.declared.edition.Edition.{Edition}
 use Rattle.view_config.specs.declared.edition.Edition.TheVariants.{One, Two}
 use Rattle.view_config.specs.declared.config.Config.{Config}
-use Rattle.view_config.specs.Limits.{record_limit}
+use Rattle.view_config.specs.Limits.{record_limit, window_of}
+use Rattle.view_config.specs.declared.limits.TheConstants.{MAX_CLIENTS, MAX_COPIES, MAX_SEQ, MAX_SHARDS}
+use Rattle.view_config.specs.declared.nodes.TheConstants.{BOARD, MAX_NODE}
+use Rattle.rec_id.specs.declared.limits.TheConstants.{READ_LIMIT}
+use Rattle.lazy_msgs.specs.declared.limits.TheConstants.{BATCH_LIMIT, PENDING_LIMIT, TIME_LIMIT}
 use Rattle.lazy_msgs.specs.declared.msg.Envelope.{Envelope}
 use Rattle.lazy_msgs.specs.declared.msg.Msg.{Msg}
 use Rattle.lazy_msgs.specs.declared.msg.Msg.TheVariants.{Append, AppendAck, Put, DataAck, Rejected, Place, Placed, Copy, Copied, Order, Ordered, Stable, Probe, ProbeAck, TailReady, Fetch, Part, Flush, FlushCopy, Flushed, Seal, Sealed, SealedEmpty, NewView, Started, AskView, ViewIs, Claim, Trim, TrimAck, TrimmedAt}
@@ -27,7 +31,7 @@ pub record IsCounted (n : ℕ) : Type 0 where
   pub word : IsWord n
 
 abbrev pub IsNode : ℕ → Type 0
-IsNode node = node ≤ 295
+IsNode node = node ≤ MAX_NODE
 
 abbrev pub BytesFit : Edition → List ℕ → Type 0
 BytesFit edition bytes = length bytes ≤ record_limit edition
@@ -74,10 +78,10 @@ pub record NodesFit (limit : ℕ) (nodes : List ℕ) : Type 0 where
 
 pub record ConfigFits (config : Config) : Type 0 where
   pub view : IsCounted config.view
-  pub seq : NodesFit 7 config.seq
+  pub seq : NodesFit MAX_SEQ config.seq
   pub shards_least : 1 ≤ length config.shards
-  pub shards_most : length config.shards ≤ 8
-  pub shards : AllByRecursion (NodesFit 4) config.shards
+  pub shards_most : length config.shards ≤ MAX_SHARDS
+  pub shards : AllByRecursion (NodesFit MAX_COPIES) config.shards
 
 -- how many words the bits of a client take
 abbrev pub words_of : Edition → ℕ
@@ -99,7 +103,7 @@ pub record MarksFit (edition : Edition) (marks : Marks) : Type 0 where
 -- the marks of each client
 pub record WindowFits (edition : Edition) (window : List Marks) : Type 0 where
   pub least : 1 ≤ length window
-  pub most : length window ≤ 256
+  pub most : length window ≤ MAX_CLIENTS
   pub each : AllByRecursion (MarksFit edition) window
 
 -- which kinds edition Two alone has
@@ -113,23 +117,23 @@ MessageFits edition (AppendAck view id) = IsCounted view × IsIdentity id
 MessageFits edition (Put id bytes) = IsIdentity id × BytesFit edition bytes
 MessageFits edition (DataAck view id) = IsCounted view × IsIdentity id
 MessageFits edition (Rejected id place) = IsIdentity id × IsWord place
-MessageFits edition (Place view from items) = IsCounted view × IsWord from × ListFits 64 (ItemFits edition) items
+MessageFits edition (Place view from items) = IsCounted view × IsWord from × ListFits BATCH_LIMIT (ItemFits edition) items
 MessageFits edition (Placed view upto) = IsCounted view × IsWord upto
-MessageFits edition (Copy view from cells) = IsCounted view × IsWord from × ListFits 64 (CellFits edition) cells
+MessageFits edition (Copy view from cells) = IsCounted view × IsWord from × ListFits BATCH_LIMIT (CellFits edition) cells
 MessageFits edition (Copied view upto) = IsCounted view × IsWord upto
-MessageFits edition (Order view from ids) = IsCounted view × IsWord from × ListFits 64 IsIdentity ids
+MessageFits edition (Order view from ids) = IsCounted view × IsWord from × ListFits BATCH_LIMIT IsIdentity ids
 MessageFits edition (Ordered view upto) = IsCounted view × IsWord upto
 MessageFits edition (Stable view upto) = IsCounted view × IsWord upto
 MessageFits edition (Probe view read) = IsCounted view × IsCounted read
 MessageFits edition (ProbeAck view read) = IsCounted view × IsCounted read
 MessageFits edition (TailReady view read tail) = IsCounted view × IsCounted read × IsWord tail
 MessageFits edition (Fetch read from to) = IsCounted read × IsWord from × IsWord to
-MessageFits edition (Part read from end entries) = IsCounted read × IsWord from × IsWord end × ListFits 256 (PlacedFits edition) entries
-MessageFits edition (Flush config from items) = ConfigFits config × IsWord from × ListFits 4096 (ItemFits edition) items
-MessageFits edition (FlushCopy view from cells) = IsCounted view × IsWord from × ListFits 4096 (CellFits edition) cells
+MessageFits edition (Part read from end entries) = IsCounted read × IsWord from × IsWord end × ListFits READ_LIMIT (PlacedFits edition) entries
+MessageFits edition (Flush config from items) = ConfigFits config × IsWord from × ListFits PENDING_LIMIT (ItemFits edition) items
+MessageFits edition (FlushCopy view from cells) = IsCounted view × IsWord from × ListFits PENDING_LIMIT (CellFits edition) cells
 MessageFits edition (Flushed view) = IsCounted view
 MessageFits edition (Seal view) = IsCounted view
-MessageFits edition (Sealed view bound window items) = IsCounted view × IsWord bound × WindowFits edition window × ListFits 4096 (ItemFits edition) items
+MessageFits edition (Sealed view bound window items) = IsCounted view × IsWord bound × WindowFits edition window × ListFits PENDING_LIMIT (ItemFits edition) items
 MessageFits edition (SealedEmpty view) = IsCounted view
 MessageFits edition (NewView config base window) = ConfigFits config × IsWord base × WindowFits edition window
 MessageFits edition (Started view) = IsCounted view
@@ -143,6 +147,6 @@ MessageFits edition (TrimmedAt read floor) = IsTwo edition × IsCounted read × 
 -- the envelope has a form in the edition
 pub record Fits (edition : Edition) (env : Envelope) : Type 0 where
   pub from : IsNode env.from
-  pub to : env.to ≤ 296
-  pub time : env.time < 2 ^ 40
+  pub to : env.to ≤ BOARD
+  pub time : env.time < TIME_LIMIT
   pub message : MessageFits edition env.msg

@@ -1,4 +1,5 @@
 use Rattle.std.specs.Prelude.{ℕ, ◌+◌, ◌-◌, ◌*◌, ◌^◌, min, List, length, sum_by, Option, Some, None}
+use Rattle.lazy_msgs.specs.declared.limits.TheConstants.{MESSAGE_WEIGHT, MEMBER_WEIGHT, MARKS_WEIGHT, WORD_WEIGHT}
 use Rattle.rec_id.specs.declared.entry.Entry.{Entry}
 use Rattle.rec_id.specs.declared.entry.Entry.TheVariants.{Kept as KeptEntry, Noop as NoopEntry, Gone as GoneEntry}
 use Rattle.rec_id.specs.declared.item.Item.{Item}
@@ -29,22 +30,22 @@ body_weight Gone = 0
 
 -- an item, a cell, an entry and an identity are 16 and their bytes
 abbrev pub item_weight : Item → ℕ
-item_weight item = data_weight item.bytes + 16
+item_weight item = data_weight item.bytes + MEMBER_WEIGHT
 
 abbrev pub cell_weight : Cell → ℕ
-cell_weight cell = body_weight cell.body + 16
+cell_weight cell = body_weight cell.body + MEMBER_WEIGHT
 
 abbrev pub entry_weight : Entry → ℕ
-entry_weight (KeptEntry id bytes) = length bytes + 16
-entry_weight (NoopEntry id) = 16
-entry_weight (GoneEntry id) = 16
+entry_weight (KeptEntry id bytes) = length bytes + MEMBER_WEIGHT
+entry_weight (NoopEntry id) = MEMBER_WEIGHT
+entry_weight (GoneEntry id) = MEMBER_WEIGHT
 
 -- the marks of a client are 32, and 8 for each word
 abbrev pub marks_weight : Marks → ℕ
-marks_weight marks = 8 * length marks.bits + 32
+marks_weight marks = WORD_WEIGHT * length marks.bits + MARKS_WEIGHT
 
 abbrev pub ids_weight : List Identity → ℕ
-ids_weight ids = 16 * length ids
+ids_weight ids = MEMBER_WEIGHT * length ids
 
 abbrev pub items_weight : List Item → ℕ
 items_weight items = sum_by item_weight items
@@ -94,7 +95,7 @@ load_of (TrimmedAt read floor) = 0
 
 -- 64 for the message, and what it carries
 abbrev pub weight_of : Msg → ℕ
-weight_of msg = capped (load_of msg + 64)
+weight_of msg = capped (load_of msg + MESSAGE_WEIGHT)
 
 -- what several messages weigh together
 abbrev pub sends_weight : List (ℕ × Msg) → ℕ

@@ -23,8 +23,15 @@ pub enum Input {
     Trim(u32),
     /// At the controller: this node is to be replaced.
     Suspect(u32),
-    /// At a client: the order from `from` on, as claimed up to `stable`.
-    Peek { stable: u32, from: u32, ids: IdList },
+    /// At a client: the order from `from` on, as claimed up to `stable` by this replica at this time, both
+    /// 0 where nothing was claimed. A replica goes by its number less that of the first.
+    Peek {
+        stable: u32,
+        time: u64,
+        replica: u32,
+        from: u32,
+        ids: IdList,
+    },
 }
 
 impl Clone for Input {
@@ -40,8 +47,16 @@ impl Clone for Input {
             Input::Ask(ask) => Ok(Input::Ask(*ask)),
             Input::Trim(floor) => Ok(Input::Trim(*floor)),
             Input::Suspect(node) => Ok(Input::Suspect(*node)),
-            Input::Peek { stable, from, ids } => Ok(Input::Peek {
+            Input::Peek {
+                stable,
+                time,
+                replica,
+                from,
+                ids,
+            } => Ok(Input::Peek {
                 stable: *stable,
+                time: *time,
+                replica: *replica,
                 from: *from,
                 ids: ids.copy()?,
             }),

@@ -4,6 +4,7 @@
 ghost use Rattle.std.specs.Prelude.{◌≡◌};
 ghost use Rattle.lazy_msgs.specs.Weight.{weight_of, data_weight, item_weight, cell_weight, entry_weight, marks_weight, ids_weight, items_weight, cells_weight, entries_weight, window_weight, capped};
 
+use crate::limits::{MARKS_WEIGHT, MEMBER_WEIGHT, MESSAGE_WEIGHT, WORD_WEIGHT};
 use crate::{Envelope, Msg};
 use rec_id::{Body, Bytes, Cell, CellList, Entry, Item, ItemList, Marks, PlacedList, WindowList};
 
@@ -27,15 +28,15 @@ fn data_weight(bytes: &Option<Bytes>) -> u64
 fn item_weight(item: &Item) -> u64
     ensures { result ≡ capped (item_weight item.now) }
 {
-    data_weight(&item.bytes).saturating_add(16)
+    data_weight(&item.bytes).saturating_add(MEMBER_WEIGHT)
 }
 
 fn cell_weight(cell: &Cell) -> u64
     ensures { result ≡ capped (cell_weight cell.now) }
 {
     match &cell.body {
-        Body::Kept(bytes) => (bytes.len() as u64).saturating_add(16),
-        Body::Elsewhere | Body::Noop | Body::Open | Body::Gone => 16,
+        Body::Kept(bytes) => (bytes.len() as u64).saturating_add(MEMBER_WEIGHT),
+        Body::Elsewhere | Body::Noop | Body::Open | Body::Gone => MEMBER_WEIGHT,
     }
 }
 
@@ -43,8 +44,8 @@ fn entry_weight(entry: &Entry) -> u64
     ensures { result ≡ capped (entry_weight entry.now) }
 {
     match entry {
-        Entry::Kept(_, bytes) => (bytes.len() as u64).saturating_add(16),
-        Entry::Noop(_) | Entry::Gone(_) => 16,
+        Entry::Kept(_, bytes) => (bytes.len() as u64).saturating_add(MEMBER_WEIGHT),
+        Entry::Noop(_) | Entry::Gone(_) => MEMBER_WEIGHT,
     }
 }
 
@@ -52,8 +53,8 @@ fn marks_weight(marks: &Marks) -> u64
     ensures { result ≡ capped (marks_weight marks.now) }
 {
     (marks.bits.len() as u64)
-        .saturating_mul(8)
-        .saturating_add(32)
+        .saturating_mul(WORD_WEIGHT)
+        .saturating_add(MARKS_WEIGHT)
 }
 
 fn items_weight(items: &ItemList) -> u64
@@ -101,20 +102,22 @@ pub fn message_weight(msg: &Msg) -> u64
     ensures { result ≡ weight_of msg.now }
 {
     match msg {
-        Msg::Append { bytes, .. } => data_weight(bytes).saturating_add(64),
-        Msg::Put { bytes, .. } => (bytes.len() as u64).saturating_add(64),
+        Msg::Append { bytes, .. } => data_weight(bytes).saturating_add(MESSAGE_WEIGHT),
+        Msg::Put { bytes, .. } => (bytes.len() as u64).saturating_add(MESSAGE_WEIGHT),
         Msg::Place { items, .. } | Msg::Flush { items, .. } => {
-            items_weight(items).saturating_add(64)
+            items_weight(items).saturating_add(MESSAGE_WEIGHT)
         }
         Msg::Copy { cells, .. } | Msg::FlushCopy { cells, .. } => {
-            cells_weight(cells).saturating_add(64)
+            cells_weight(cells).saturating_add(MESSAGE_WEIGHT)
         }
-        Msg::Order { ids, .. } => (ids.len() as u64).saturating_mul(16).saturating_add(64),
-        Msg::Part { entries, .. } => entries_weight(entries).saturating_add(64),
+        Msg::Order { ids, .. } => (ids.len() as u64)
+            .saturating_mul(MEMBER_WEIGHT)
+            .saturating_add(MESSAGE_WEIGHT),
+        Msg::Part { entries, .. } => entries_weight(entries).saturating_add(MESSAGE_WEIGHT),
         Msg::Sealed { window, items, .. } => window_weight(window)
             .saturating_add(items_weight(items))
-            .saturating_add(64),
-        Msg::NewView { window, .. } => window_weight(window).saturating_add(64),
+            .saturating_add(MESSAGE_WEIGHT),
+        Msg::NewView { window, .. } => window_weight(window).saturating_add(MESSAGE_WEIGHT),
         Msg::AppendAck { .. }
         | Msg::DataAck { .. }
         | Msg::Rejected { .. }
@@ -135,6 +138,6 @@ pub fn message_weight(msg: &Msg) -> u64
         | Msg::Claim { .. }
         | Msg::Trim { .. }
         | Msg::TrimAck { .. }
-        | Msg::TrimmedAt { .. } => 64,
+        | Msg::TrimmedAt { .. } => MESSAGE_WEIGHT,
     }
 }

@@ -6,10 +6,10 @@ use Rattle.std.proofs.lemmas.Option.{slice_get-get_or, slice_get_cases, get_or_f
 use Rattle.std.proofs.lemmas.Bool.{cases_lt, cases_eq, eq-eqb, ne_eqb, lt-ltb, le-leb, lt-leb, leb-true, or_right, or_from}
 use Rattle.rec_id.specs.Identity.{Identity}
 use Rattle.rec_id.specs.declared.marks.Marks.{Marks}
-use Rattle.rec_id.specs.Marks.{window_of, bit_of, is_marked, is_stale, is_seen, stands_marked, mark, no_marks}
+use Rattle.rec_id.specs.Marks.{span_of, bit_of, is_marked, is_stale, is_seen, stands_marked, mark, no_marks}
 use Rattle.view_config.specs.declared.edition.Edition.{Edition}
 use Rattle.view_config.specs.declared.edition.Edition.TheVariants.{One, Two}
-use Rattle.view_config.specs.Limits.{window_of as width_of}
+use Rattle.view_config.specs.Limits.{window_of}
 use Rattle.view_config.specs.Shape.{Dimensions}
 use Rattle.rec_id.specs.Identity.{same_id, has_id}
 use Rattle.lazy_rules.specs.SeqState.{empty_window}
@@ -42,7 +42,7 @@ module _ (marks : Marks) (number other : ℕ) (some : 1 ≤ other) where
   told n = eqb n number || is_marked marks n
 
   -- a number that has a bit is marked where it was, or is the new one
-  is_marked-mark : top < other + window_of marks → is_marked (mark marks number) other ≡ (eqb other number || is_marked marks other)
+  is_marked-mark : top < other + span_of marks → is_marked (mark marks number) other ≡ (eqb other number || is_marked marks other)
   is_marked-mark near = elim (cases_lt top other) [
     | inl above ↦
         ap (λ (b : Bool). b && bit_of (mark marks number).bits (top - other)) (lt-leb other top above)
@@ -59,17 +59,17 @@ module _ (marks : Marks) (number other : ℕ) (some : 1 ≤ other) where
 
   -- a number is seen after one more mark exactly where it was seen, is that mark, or is stale by the
   -- new top
-  pub is_seen-mark : is_seen (mark marks number) other ≡ (eqb other number || is_seen marks other || leb (other + window_of marks) top)
-  is_seen-mark = elim (cases_lt top (other + window_of marks)) [
+  pub is_seen-mark : is_seen (mark marks number) other ≡ (eqb other number || is_seen marks other || leb (other + span_of marks) top)
+  is_seen-mark = elim (cases_lt top (other + span_of marks)) [
     | inl near ↦
         seen_near (is_marked (mark marks number) other) (eqb other number) (is_marked marks other) _ _ _ (is_marked-mark near)
-        (lt-leb (other + window_of (mark marks number)) top (omega (arith, length-mark marks number)))
-        (lt-leb (other + window_of marks) marks.top (omega arith))
-        (lt-leb (other + window_of marks) top near)
+        (lt-leb (other + span_of (mark marks number)) top (omega (arith, length-mark marks number)))
+        (lt-leb (other + span_of marks) marks.top (omega arith))
+        (lt-leb (other + span_of marks) top near)
     | inr far ↦
         or_right (is_marked (mark marks number) other) (is_stale (mark marks number) other)
-        (le-leb (other + window_of (mark marks number)) top (omega (arith, length-mark marks number)))
-        ∙ sym (or_right (eqb other number || is_seen marks other) (leb (other + window_of marks) top) (le-leb (other + window_of marks) top far))
+        (le-leb (other + span_of (mark marks number)) top (omega (arith, length-mark marks number)))
+        ∙ sym (or_right (eqb other number || is_seen marks other) (leb (other + span_of marks) top) (le-leb (other + span_of marks) top far))
   ]
 
 -- ---- windows
@@ -101,7 +101,7 @@ unseen : (n : ℕ) → 1 ≤ n → is_seen (no_marks 0) n ≡ false
 unseen n some =
     or_from (is_marked (no_marks 0) n) (is_stale (no_marks 0) n)
     (ap (λ (b : Bool). b && bit_of (no_marks 0).bits (0 - n)) (lt-leb n 0 some))
-    (lt-leb (n + window_of (no_marks 0)) 0 (omega arith))
+    (lt-leb (n + span_of (no_marks 0)) 0 (omega arith))
 
 seen-by : (window : List Marks) (client n : ℕ) → 1 ≤ n → is_seen (marks_of window client) n ≡ seen_by (slice_get window client) n
 seen-by window client n some = elim (slice_get_cases window client).1 [
@@ -143,7 +143,7 @@ module _ (window : List Marks) (id : Identity) (marks : Marks) (here : slice_get
   -- what is seen after a mark of that identity
   abbrev seen_then : ℕ → ℕ → Bool
   seen_then client n =
-      (eqb id.client client && eqb id.number n) || seen_by (slice_get window client) n || (eqb client id.client && leb (n + window_of marks) new_top)
+      (eqb id.client client && eqb id.number n) || seen_by (slice_get window client) n || (eqb client id.client && leb (n + span_of marks) new_top)
 
   own_seen : (n : ℕ) → 1 ≤ n → seen_by (slice_get (marked_in window id) id.client) n ≡ seen_then id.client n
   own_seen n some =
@@ -159,16 +159,16 @@ module _ (window : List Marks) (id : Identity) (marks : Marks) (here : slice_get
         ∙ ap (λ (o : Option Marks). seen_by o n) (other_mark window id.client id.number (slice_get window id.client) client apart)
         ∙ or_false (seen_by (slice_get window client) n)
         ∙ ap (λ (b : Bool). (b && eqb id.number n) || seen_by (slice_get window client) n || false) (sym (ne_eqb id.client client apart))
-        ∙ ap (λ (b : Bool). (eqb id.client client && eqb id.number n) || seen_by (slice_get window client) n || (b && leb (n + window_of marks) new_top))
+        ∙ ap (λ (b : Bool). (eqb id.client client && eqb id.number n) || seen_by (slice_get window client) n || (b && leb (n + span_of marks) new_top))
         (sym (ne_eqb client id.client (λ e. apart (sym e))))
   ]
 
 -- one more mark adds exactly that identity, and what is stale then
-pub seen_one_more : (window : List Marks) (id other : Identity) (marks : Marks) → slice_get window id.client ≡ Some marks → 1 ≤ other.number → has_seen (marked_in window id) other ≡ (same_id id other || has_seen window other || (eqb other.client id.client && leb (other.number + window_of marks) (max marks.top id.number)))
+pub seen_one_more : (window : List Marks) (id other : Identity) (marks : Marks) → slice_get window id.client ≡ Some marks → 1 ≤ other.number → has_seen (marked_in window id) other ≡ (same_id id other || has_seen window other || (eqb other.client id.client && leb (other.number + span_of marks) (max marks.top id.number)))
 seen_one_more window id other marks here some =
     seen-by (marked_in window id) other.client other.number some
     ∙ seen_at window id marks here other.client other.number some
-    ∙ ap (λ (b : Bool). same_id id other || b || (eqb other.client id.client && leb (other.number + window_of marks) (max marks.top id.number))) (sym (seen-by window other.client other.number some))
+    ∙ ap (λ (b : Bool). same_id id other || b || (eqb other.client id.client && leb (other.number + span_of marks) (max marks.top id.number))) (sym (seen-by window other.client other.number some))
 
 -- ---- a list of marks
 
@@ -200,7 +200,7 @@ top_of-other (one ∷ ids) id client apart =
 
 -- the marks of a client are those of a list of marks
 record IsAfter (width : ℕ) (ids : List Identity) (client : ℕ) (marks : Marks) : Type 0 where
-  wide : window_of marks ≡ width
+  wide : span_of marks ≡ width
   top : marks.top ≡ top_of ids client
   seen : (n : ℕ) → 1 ≤ n → is_seen marks n ≡ (has_id ids (record { client = client; number = n }) || leb (n + width) (top_of ids client))
 
@@ -283,27 +283,27 @@ no_marks_after words client = record {
   seen = λ n some.
       or_from (is_marked (no_marks words) n) (is_stale (no_marks words) n)
       (ap (λ (b : Bool). b && bit_of (no_marks words).bits (0 - n)) (lt-leb n 0 some))
-      (lt-leb (n + window_of (no_marks words)) 0 (omega arith))
+      (lt-leb (n + span_of (no_marks words)) 0 (omega arith))
       ∙ sym (lt-leb (n + 64 * words) 0 (omega arith));
 }
 
-words_of_width : (edition : Edition) → 64 * (width_of edition / 64) ≡ width_of edition
+words_of_width : (edition : Edition) → 64 * (window_of edition / 64) ≡ window_of edition
 words_of_width One = refl
 words_of_width Two = refl
 
 -- after any marks an identity is seen exactly where it was marked, or is stale by the greatest mark
 -- of its client
 pub has_seen-marked_all : (shape : Dimensions) (ids : List Identity) (id : Identity) → id.client < shape.clients → 1 ≤ id.number
-    → has_seen (marked_all (empty_window shape) ids) id ≡ (has_id ids id || leb (id.number + width_of shape.edition) (top_of ids id.client))
+    → has_seen (marked_all (empty_window shape) ids) id ≡ (has_id ids id || leb (id.number + window_of shape.edition) (top_of ids id.client))
 has_seen-marked_all shape ids id inside some =
     let window = marked_all (empty_window shape) ids in
-    let start : AllAfter (width_of shape.edition) [] (empty_window shape) = λ client marks there.
+    let start : AllAfter (window_of shape.edition) [] (empty_window shape) = λ client marks there.
     subst (λ (w : ℕ). IsAfter w [] client marks) (words_of_width shape.edition)
-    (subst (λ (m : Marks). IsAfter (64 * (width_of shape.edition / 64)) [] client m)
-    (slice_get-replicate shape.clients client (no_marks (width_of shape.edition / 64)) marks there)
-    (no_marks_after (width_of shape.edition / 64) client)) in
+    (subst (λ (m : Marks). IsAfter (64 * (window_of shape.edition / 64)) [] client m)
+    (slice_get-replicate shape.clients client (no_marks (window_of shape.edition / 64)) marks there)
+    (no_marks_after (window_of shape.edition / 64) client)) in
     let long : length window ≡ shape.clients =
-    length-marked_all (empty_window shape) ids ∙ length-replicate shape.clients (no_marks (width_of shape.edition / 64)) in
+    length-marked_all (empty_window shape) ids ∙ length-replicate shape.clients (no_marks (window_of shape.edition / 64)) in
     let there : slice_get window id.client ≡ Some (get_or window id.client (no_marks 0)) =
     slice_get-get_or window id.client (no_marks 0) (omega arith) in
-    (all_more (width_of shape.edition) [] ids (empty_window shape) start id.client (get_or window id.client (no_marks 0)) there).seen id.number some
+    (all_more (window_of shape.edition) [] ids (empty_window shape) start id.client (get_or window id.client (no_marks 0)) there).seen id.number some

@@ -11,16 +11,13 @@ use Rattle.lazy_rules.specs.ClientState.{ClientState}
 use Rattle.lazy_rules.specs.ReaderRules.{reader_took, on_reader_tick, on_ask, on_trim_input}
 use Rattle.lazy_rules.specs.ReaderState.{ReaderState, is_at_work}
 use Rattle.lazy_rules.specs.Rows.{stays, answers, followed}
+use Rattle.view_config.specs.declared.nodes.TheConstants.{CONTROLLER}
 
 -- A client's node: a half that appends, and a half that reads and trims.
 
 pub record ClientNode : Type 0 where
   pub appends : ClientState
   pub reads : ReaderState
-
--- the number of the controller
-abbrev pub controller : ℕ
-controller = 256
 
 -- the step of one half, as the node's
 abbrev pub with_appends : ClientNode → ClientState → ClientNode
@@ -82,12 +79,12 @@ abbrev pub reads_tick : ClientNode → Row ClientNode
 reads_tick n = in_reads n (on_reader_tick n.reads)
 
 abbrev pub asks_view : Bool → ClientNode → Row ClientNode
-asks_view was_busy n = if was_busy then answers n controller AskView else stays n
+asks_view was_busy n = if was_busy then answers n CONTROLLER AskView else stays n
 
 abbrev pub on_node_tick : ClientNode → Row ClientNode
 on_node_tick n = followed (followed (appends_tick n) reads_tick) (asks_view (is_busy n))
 
--- Peek: the client is told the order
+-- Peek: the client is told the order. Which claim it was read from is for diaries alone
 abbrev pub sees : ClientNode → ℕ → List Identity → Row ClientNode
 sees n from ids = record { next = n; sends = []; events = Seen n.appends.client from ids ∷ [] }
 
@@ -98,5 +95,5 @@ client_node_step n Tick = on_node_tick n
 client_node_step n (Post bytes) = in_appends n (on_post n.appends bytes)
 client_node_step n (Ask ask) = in_reads n (on_ask n.reads ask)
 client_node_step n (Trim floor) = in_reads n (on_trim_input n.reads floor)
-client_node_step n (Peek stable from ids) = sees n from ids
+client_node_step n (Peek stable time replica from ids) = sees n from ids
 client_node_step n _ = stays n

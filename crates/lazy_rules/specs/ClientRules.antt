@@ -16,6 +16,7 @@ use Rattle.lazy_msgs.specs.Step.{Row}
 use Rattle.lazy_rules.specs.ClientState.{ClientState, OpenAppend, id_of, lowest}
 use Rattle.lazy_rules.specs.Door.{is_turned_away}
 use Rattle.lazy_rules.specs.Rows.{stays, sends_all, has_node}
+use Rattle.lazy_rules.specs.declared.limits.TheConstants.{RESENT_LIMIT}
 
 -- why an append of so many bytes is refused, if it is
 abbrev pub post_refusal : ClientState → ℕ → Option PostRefused
@@ -111,19 +112,19 @@ place_of c number = position (λ append. append.number == number) c.unfinished
 
 -- AppendAck: noted where it is of the client's view and of a sequencing replica of it
 abbrev pub on_append_ack : ClientState → ℕ → ℕ → Identity → Row ClientState
-on_append_ack c from view id =
+on_append_ack c sender view id =
     if not (view == c.config.view) then stays c
     else (if not (id.client == c.client) then stays c
-    else (if not (has_node c.config.seq from) then stays c
-    else acknowledged c from (place_of c id.number)))
+    else (if not (has_node c.config.seq sender) then stays c
+    else acknowledged c sender (place_of c id.number)))
 
 -- DataAck: the same, where it is of the client's view and of a replica of the record's shard in it
 abbrev pub on_data_ack : ClientState → ℕ → ℕ → Identity → Row ClientState
-on_data_ack c from view id =
+on_data_ack c sender view id =
     if not (view == c.config.view) then stays c
     else (if not (id.client == c.client) then stays c
-    else (if not (has_node (homes_of c id) from) then stays c
-    else acknowledged c from (place_of c id.number)))
+    else (if not (has_node (homes_of c id) sender) then stays c
+    else acknowledged c sender (place_of c id.number)))
 
 -- Rejected: the append is finished, and the client is told the place of the no-op
 abbrev pub rejects : ClientState → Identity → ℕ → Option ℕ → Row ClientState
@@ -155,11 +156,8 @@ on_view_is c config =
     else stays c
 
 -- Tick: the lowest unfinished appends, so many, are sent again
-abbrev pub resent_limit : ℕ
-resent_limit = 8
-
 abbrev pub on_client_tick : ClientState → Row ClientState
-on_client_tick c = sending_each c (take resent_limit c.unfinished)
+on_client_tick c = sending_each c (take RESENT_LIMIT c.unfinished)
 
 -- Post, where it isn't refused
 abbrev pub posts : ClientState → List ℕ → Option PostRefused → Row ClientState
@@ -171,15 +169,15 @@ on_post c bytes = posts c bytes (post_refusal c (length bytes))
 
 -- what a message does, at a client that it isn't turned away from
 abbrev pub client_row : ClientState → ℕ → Msg → Row ClientState
-client_row c from (AppendAck view id) = on_append_ack c from view id
-client_row c from (DataAck view id) = on_data_ack c from view id
-client_row c from (Rejected id place) = on_rejected c id place
-client_row c from (ViewIs config) = on_view_is c config
-client_row c from _ = stays c
+client_row c sender (AppendAck view id) = on_append_ack c sender view id
+client_row c sender (DataAck view id) = on_data_ack c sender view id
+client_row c sender (Rejected id place) = on_rejected c id place
+client_row c sender (ViewIs config) = on_view_is c config
+client_row c sender _ = stays c
 
 -- what a message from this node does
 abbrev pub client_took : ClientState → ℕ → Msg → Row ClientState
-client_took c from msg = if is_turned_away c.shape from msg then stays c else client_row c from msg
+client_took c sender msg = if is_turned_away c.shape sender msg then stays c else client_row c sender msg
 
 -- what an input does
 abbrev pub client_step : ClientState → Input → Row ClientState

@@ -5,7 +5,8 @@ use Rattle.view_config.specs.Config.{initial_config}
 use Rattle.view_config.specs.Shape.{Dimensions}
 
 -- an append that isn't finished: its number, its data, and the nodes that acknowledged it in the
--- client's view
+-- client's view: sequencing replicas that took the record, and replicas of its shard that have the data.
+-- No node is both
 pub record OpenAppend : Type 0 where
   pub number : ℕ
   pub bytes : List ℕ

@@ -111,8 +111,8 @@ has_due_items _ = true
 
 -- the message from this node meets no rule, at any node
 abbrev pub is_turned_away : Dimensions → ℕ → Msg → Bool
-is_turned_away shape from msg =
-    if not (has_due_sender (node_of shape from) msg) then true
+is_turned_away shape sender msg =
+    if not (has_due_sender (node_of shape sender) msg) then true
     else (if not (has_due_items msg) then true
     else (if not (names_clients shape msg) then true
     else (if not (carries_window shape msg) then true

@@ -17,13 +17,6 @@ pub record Probe : Type 0 where
   pub read : ℕ
   pub target : ℕ
 
--- how many batches are on their way at most, and how many items one has
-abbrev pub flight_limit : ℕ
-flight_limit = 4
-
-abbrev pub batch_limit : ℕ
-batch_limit = 64
-
 -- where a batch ends
 abbrev pub batch_end : Batch → ℕ
 batch_end batch = batch.from + batch.count

@@ -7,16 +7,13 @@ use Rattle.lazy_rules.specs.ControlState.{Phase, Running, Sealing, Flushing}
 use Rattle.lazy_rules.specs.Rows.{has_node}
 use Rattle.lazy_rules.specs.SeqState.{SeqState}
 use Rattle.lazy_rules.specs.WorldState.{WorldState}
+use Rattle.view_config.specs.Nodes.{taken_state}
 
 -- Who holds the log at a moment, and what of it.
 
 -- the node isn't crashed
 abbrev pub is_alive : WorldState → ℕ → Bool
 is_alive w node = not (has_node w.crashed node)
-
--- the number by which the taken state goes as a holder: that of the controller, which keeps it
-abbrev pub taken_state : ℕ
-taken_state = 256
 
 -- the holders: the sequencing replicas of the latest started view that aren't crashed, in its order; the
 -- taken state while there is one

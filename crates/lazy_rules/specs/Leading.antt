@@ -3,12 +3,14 @@ use Rattle.rec_id.specs.declared.item.Item.{Item}
 use Rattle.lazy_msgs.specs.declared.msg.Msg.{Msg}
 use Rattle.lazy_msgs.specs.declared.msg.Msg.TheVariants.{Place, Order, Stable, TailReady}
 use Rattle.lazy_msgs.specs.Step.{Row}
-use Rattle.lazy_rules.specs.Flight.{Batch, Probe, flight_limit, batch_limit, flight_end, new_batch, lacks_place, lacks_order, passed, passing, is_finished, ready_probes, waiting_probes, waits_above}
+use Rattle.lazy_rules.specs.Flight.{Batch, Probe, flight_end, new_batch, lacks_place, lacks_order, passed, passing, is_finished, ready_probes, waiting_probes, waits_above}
 use Rattle.lazy_rules.specs.Ids.{ids_of}
 use Rattle.lazy_rules.specs.Items.{items_for}
 use Rattle.lazy_rules.specs.Roles.{first_of, followers_of, replicas_of}
 use Rattle.lazy_rules.specs.Rows.{stays, sends_all, followed, to_each, each_numbered}
 use Rattle.lazy_rules.specs.SeqState.{SeqState}
+use Rattle.lazy_msgs.specs.declared.limits.TheConstants.{BATCH_LIMIT}
+use Rattle.lazy_rules.specs.declared.limits.TheConstants.{FLIGHT_LIMIT}
 
 -- The parts of a leader's rows. Each takes the state that the part before it left.
 
@@ -43,14 +45,14 @@ abbrev pub behind : SeqState → List Item
 behind s = drop (flight_end s.bound s.flight - s.bound) s.pending
 
 abbrev pub next_batch : SeqState → Batch
-next_batch s = new_batch (flight_end s.bound s.flight) (min batch_limit (length (behind s)))
+next_batch s = new_batch (flight_end s.bound s.flight) (min BATCH_LIMIT (length (behind s)))
 
 abbrev pub with_next : SeqState → SeqState
 with_next s = record s { flight = s.flight ++ next_batch s ∷ [] }
 
 abbrev pub begins : SeqState → Row SeqState
 begins s =
-    if nat_lt (length s.flight) flight_limit && nat_lt 0 (length (behind s))
+    if nat_lt (length s.flight) FLIGHT_LIMIT && nat_lt 0 (length (behind s))
     then sends_all (with_next s) (place_sends s (next_batch s))
     else stays s
 
@@ -68,7 +70,7 @@ forcing (suc room) s =
     if waits_above s.probes (flight_end s.bound s.flight) then followed (begins s) (forcing room) else stays s
 
 abbrev pub forces : SeqState → Row SeqState
-forces s = forcing (flight_limit - length s.flight) s
+forces s = forcing (FLIGHT_LIMIT - length s.flight) s
 
 -- the first batch leaves the flight: its items are bound, and the reads that waited for no more are
 -- answered

@@ -26,15 +26,12 @@ use Rattle.lazy_rules.specs.Door.{is_turned_away}
 use Rattle.lazy_rules.specs.ReaderState.{ReaderState, Fetch, Force, Trimmer, Stage, Idle, Fetching, Probing, Trimming, outstanding}
 use Rattle.lazy_rules.specs.Roles.{is_first, first_of, primaries_of, replicas_of}
 use Rattle.lazy_rules.specs.Rows.{stays, sends_all, followed, to_each, each_numbered, has_node}
-
--- how many positions a read has at most
-abbrev pub width_limit : ℕ
-width_limit = 256
+use Rattle.rec_id.specs.declared.limits.TheConstants.{READ_LIMIT}
 
 -- why a read is refused, if it is: one read or trim at a time, and a range that isn't backward or wide
 abbrev pub range_refusal : Ask → Option BeginRefused
 range_refusal (Range from to) =
-    if nat_lt to from then Some Backward else (if nat_lt width_limit (to - from) then Some Wide else None)
+    if nat_lt to from then Some Backward else (if nat_lt READ_LIMIT (to - from) then Some Wide else None)
 range_refusal (Tail from) = None
 
 abbrev pub begin_refusal_beside : Option ℕ → Ask → Option BeginRefused

@@ -15,6 +15,8 @@ use Rattle.lazy_rules.specs.Roles.{is_first, follower_of, shard_led_by}
 use Rattle.lazy_rules.specs.Rows.{stays, answers, sends_all, followed, has_node}
 use Rattle.lazy_rules.specs.SeqState.{SeqState}
 use Rattle.lazy_rules.specs.Windows.{has_seen, marked_in, marked_all}
+use Rattle.lazy_msgs.specs.declared.limits.TheConstants.{PENDING_LIMIT}
+use Rattle.lazy_rules.specs.declared.limits.TheConstants.{POSITION_LIMIT}
 
 -- the replica is in this view, and isn't sealed
 abbrev pub is_active : SeqState → ℕ → Bool
@@ -36,16 +38,9 @@ is_leading s view = is_active s view && is_leader s && has_positions s
 abbrev pub is_following : SeqState → ℕ → Bool
 is_following s view = is_active s view && not (is_leader s)
 
--- how many items a replica holds unbound, and below which position it takes new ones
-abbrev pub pending_limit : ℕ
-pending_limit = 4096
-
-abbrev pub position_limit : ℕ
-position_limit = 61440
-
 -- there is room for one identity more
 abbrev pub has_room : SeqState → Bool
-has_room s = nat_lt (length s.pending) pending_limit && nat_lt (s.bound + length s.pending) position_limit
+has_room s = nat_lt (length s.pending) PENDING_LIMIT && nat_lt (s.bound + length s.pending) POSITION_LIMIT
 
 -- the replica with one item more, whose identity it marks
 abbrev pub with_item : SeqState → Identity → Option (List ℕ) → SeqState
@@ -74,10 +69,10 @@ placed_by s upto (Some shard) =
     followed (passes (record s { flight = with_place s.flight shard upto })) finishes
 
 abbrev pub on_placed : SeqState → ℕ → ℕ → ℕ → Row SeqState
-on_placed s from view upto =
+on_placed s sender view upto =
     if not (is_leading s view) then stays s
     else (if not (has_placing s.flight upto) then stays s
-    else placed_by s upto (shard_led_by s.config from))
+    else placed_by s upto (shard_led_by s.config sender))
 
 -- Ordered: a follower's answer is noted
 abbrev pub ordered_by : SeqState → ℕ → Option ℕ → Row SeqState
@@ -85,10 +80,10 @@ ordered_by s upto None = stays s
 ordered_by s upto (Some follower) = finishes (record s { flight = with_order s.flight follower upto })
 
 abbrev pub on_ordered : SeqState → ℕ → ℕ → ℕ → Row SeqState
-on_ordered s from view upto =
+on_ordered s sender view upto =
     if not (is_leading s view) then stays s
     else (if not (has_ordering s.flight upto) then stays s
-    else ordered_by s upto (follower_of s.config from))
+    else ordered_by s upto (follower_of s.config sender))
 
 -- the replica once these identities are bound next
 abbrev pub with_bound : SeqState → List Identity → SeqState
@@ -100,16 +95,16 @@ with_bound s ids = record s {
 
 -- Order: a follower binds what is next, and says again what it has bound before
 abbrev pub binds : SeqState → ℕ → ℕ → List Identity → Row SeqState
-binds s from view ids =
+binds s sender view ids =
     if nat_lt (s.bound + length ids) (2 ^ 32)
-    then answers (with_bound s ids) from (Ordered view (s.bound + length ids))
+    then answers (with_bound s ids) sender (Ordered view (s.bound + length ids))
     else stays s
 
 abbrev pub on_order : SeqState → ℕ → ℕ → ℕ → List Identity → Row SeqState
-on_order s from view place ids =
+on_order s sender view from ids =
     if not (is_following s view) then stays s
-    else (if place == s.bound then binds s from view ids
-    else (if nat_le (place + length ids) s.bound then answers s from (Ordered view (place + length ids))
+    else (if from == s.bound then binds s sender view ids
+    else (if nat_le (from + length ids) s.bound then answers s sender (Ordered view (from + length ids))
     else stays s))
 
 -- a probe is kept until all that the leader knows now is bound
@@ -124,21 +119,21 @@ waits s client read = if has_later_probe s.probes client read then stays s else 
 
 -- what is told at once where nothing is pending
 abbrev pub tail_sends : SeqState → ℕ → ℕ → List (ℕ × Msg)
-tail_sends s from read = stable_sends s s.bound ++ (from, TailReady s.view read s.bound) ∷ []
+tail_sends s sender read = stable_sends s s.bound ++ (sender, TailReady s.view read s.bound) ∷ []
 
 -- Probe: it is acknowledged, and the leader answers it, now or once all that it knows is bound
 abbrev pub on_probe : SeqState → ℕ → ℕ → ℕ → Row SeqState
-on_probe s from view read =
-    if is_following s view then answers s from (ProbeAck view read)
+on_probe s sender view read =
+    if is_following s view then answers s sender (ProbeAck view read)
     else (if not (is_leading s view) then stays s
-    else (if length s.pending == 0 then sends_all s ((from, ProbeAck view read) ∷ tail_sends s from read)
-    else followed (answers s from (ProbeAck view read)) (λ after. waits after from read)))
+    else (if length s.pending == 0 then sends_all s ((sender, ProbeAck view read) ∷ tail_sends s sender read)
+    else followed (answers s sender (ProbeAck view read)) (λ after. waits after sender read)))
 
 -- Seal: the replica's own view is sealed, and a higher one is barred
 abbrev pub on_seal : SeqState → ℕ → ℕ → Row SeqState
-on_seal s from view =
-    if s.view == view then answers (record s { sealed = true }) from (Sealed view s.bound s.window s.pending)
-    else (if nat_lt s.view view then answers (record s { barred = max s.barred view }) from (SealedEmpty view)
+on_seal s sender view =
+    if s.view == view then answers (record s { sealed = true }) sender (Sealed view s.bound s.window s.pending)
+    else (if nat_lt s.view view then answers (record s { barred = max s.barred view }) sender (SealedEmpty view)
     else stays s)
 
 -- the replica in a new view
@@ -156,32 +151,32 @@ in_view s config base window = record s {
 
 -- a replica that took a view says so, and the view's leader tells its base to all shard replicas
 abbrev pub starts : SeqState → ℕ → Row SeqState
-starts s from =
-    if is_leader s then sends_all s ((from, Started s.view) ∷ stable_sends s s.bound)
-    else answers s from (Started s.view)
+starts s sender =
+    if is_leader s then sends_all s ((sender, Started s.view) ∷ stable_sends s s.bound)
+    else answers s sender (Started s.view)
 
 -- NewView: a replica that the view names takes it where it has taken and barred none as high, and
 -- says so again
 abbrev pub on_new_view : SeqState → ℕ → Config → ℕ → List Marks → Row SeqState
-on_new_view s from config base window =
+on_new_view s sender config base window =
     if nat_lt s.view config.view && nat_lt s.barred config.view && has_node config.seq s.node
-    then starts (in_view s config base window) from
-    else (if s.view == config.view then answers s from (Started config.view) else stays s)
+    then starts (in_view s config base window) sender
+    else (if s.view == config.view then answers s sender (Started config.view) else stays s)
 
 -- what a message does, at a replica that it isn't turned away from
 abbrev pub seq_row : SeqState → ℕ → Msg → Row SeqState
-seq_row s from (Append view id bytes) = on_append s view id bytes
-seq_row s from (Placed view upto) = on_placed s from view upto
-seq_row s from (Order view place ids) = on_order s from view place ids
-seq_row s from (Ordered view upto) = on_ordered s from view upto
-seq_row s from (Probe view read) = on_probe s from view read
-seq_row s from (Seal view) = on_seal s from view
-seq_row s from (NewView config base window) = on_new_view s from config base window
-seq_row s from _ = stays s
+seq_row s sender (Append view id bytes) = on_append s view id bytes
+seq_row s sender (Placed view upto) = on_placed s sender view upto
+seq_row s sender (Order view from ids) = on_order s sender view from ids
+seq_row s sender (Ordered view upto) = on_ordered s sender view upto
+seq_row s sender (Probe view read) = on_probe s sender view read
+seq_row s sender (Seal view) = on_seal s sender view
+seq_row s sender (NewView config base window) = on_new_view s sender config base window
+seq_row s sender _ = stays s
 
 -- what a message from this node does
 abbrev pub seq_took : SeqState → ℕ → Msg → Row SeqState
-seq_took s from msg = if is_turned_away s.shape from msg then stays s else seq_row s from msg
+seq_took s sender msg = if is_turned_away s.shape sender msg then stays s else seq_row s sender msg
 
 -- what an input does
 abbrev pub seq_step : SeqState → Input → Row SeqState

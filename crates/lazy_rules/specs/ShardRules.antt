@@ -16,14 +16,8 @@ use Rattle.lazy_rules.specs.Roles.{is_first, replicas_at}
 use Rattle.lazy_rules.specs.Rows.{stays, answers, followed}
 use Rattle.lazy_rules.specs.ShardState.{ShardState, Backup, PlaceJob, FlushJob, backups_of}
 use Rattle.lazy_rules.specs.Store.{Store, extend, extend_cells, recut, recut_cells, hold, fill, open_to_noop, raise_stable, trim, part, noop_at, open_at, first_open, has_open_below}
-
--- the number of the board, which isn't a node
-abbrev pub board : ℕ
-board = 296
-
--- how many batches a primary is placing at most
-abbrev pub jobs_limit : ℕ
-jobs_limit = 4
+use Rattle.lazy_rules.specs.declared.limits.TheConstants.{JOBS_LIMIT}
+use Rattle.view_config.specs.declared.nodes.TheConstants.{BOARD}
 
 -- the replica is the primary, or a backup, of this view
 abbrev pub is_primary : ShardState → ℕ → Bool
@@ -42,7 +36,7 @@ has_places from count = nat_lt (from + count) (2 ^ 32)
 
 -- Place, of the next batch: the order is extended, and the batch is pushed
 abbrev pub takes_place : ShardState → ℕ → Bool
-takes_place s from = not (is_some s.flush) && nat_lt (length s.jobs) jobs_limit && from == length_of s
+takes_place s from = not (is_some s.flush) && nat_lt (length s.jobs) JOBS_LIMIT && from == length_of s
 
 abbrev pub new_job : ShardState → ℕ → List Item → PlaceJob
 new_job s sender items = record { from = length_of s; end = length_of s + length items; asker = sender }
@@ -110,7 +104,7 @@ on_copied s sender view upto =
 abbrev pub on_stable : ShardState → ℕ → ℕ → Row ShardState
 on_stable s view upto =
     if s.view == view && nat_lt s.store.stable upto && nat_le upto (length_of s) && not (has_open_below s.store upto)
-    then answers (with_store s (raise_stable s.store upto)) board (Claim upto)
+    then answers (with_store s (raise_stable s.store upto)) BOARD (Claim upto)
     else stays s
 
 -- Put, of a record that became a no-op: it is told where that is final; else the data is held, and

@@ -24,11 +24,11 @@ use Rattle.lazy_msgs.specs.declared.refused.TrimRefused.{TrimRefused}
 use Rattle.lazy_msgs.specs.Step.{Row}
 use Rattle.lazy_msgs.specs.Weight.{weight_of}
 use Rattle.lazy_rules.specs.ClientRules.{client_took, invokes, post_refusal}
-use Rattle.lazy_rules.specs.ClientNode.{ClientNode, Half, Appends, Reads, Both, half_of, half_took, client_node_step, controller}
+use Rattle.lazy_rules.specs.ClientNode.{ClientNode, Half, Appends, Reads, Both, half_of, half_took, client_node_step}
 use Rattle.lazy_rules.specs.ClientState.{ClientState}
 use Rattle.lazy_rules.specs.ControlRules.{control_took, control_step, replaces, suspect_refusal}
 use Rattle.lazy_rules.specs.ControlState.{ControlState}
-use Rattle.lazy_rules.specs.ReaderRules.{begins_read, begin_refusal, begins_trim, trim_refusal, reader_took, width_limit}
+use Rattle.lazy_rules.specs.ReaderRules.{begins_read, begin_refusal, begins_trim, trim_refusal, reader_took}
 use Rattle.lazy_rules.specs.ReaderState.{ReaderState}
 use Rattle.lazy_rules.specs.Rows.{has_node}
 use Rattle.lazy_rules.specs.SeqRules.{seq_took, seq_step}
@@ -36,6 +36,9 @@ use Rattle.lazy_rules.specs.SeqState.{SeqState}
 use Rattle.lazy_rules.specs.ShardRules.{shard_took, shard_step}
 use Rattle.lazy_rules.specs.ShardState.{ShardState}
 use Rattle.lazy_rules.specs.WorldState.{WorldState, shard_place}
+use Rattle.lazy_rules.specs.declared.limits.TheConstants.{MESSAGES_LIMIT, WEIGHT_LIMIT}
+use Rattle.rec_id.specs.declared.limits.TheConstants.{READ_LIMIT}
+use Rattle.view_config.specs.declared.nodes.TheConstants.{CONTROLLER, FIRST_SHARD}
 
 -- What events do to a world, and why they are refused.
 
@@ -45,7 +48,7 @@ step_time w node received = max (slice_index w.times node) received + 1
 
 -- messages in their envelopes
 abbrev pub enveloped : ℕ → ℕ → List (ℕ × Msg) → List Envelope
-enveloped from time sends = map (λ send. record { from = from; to = send.0; time = time; msg = send.1 }) sends
+enveloped sender time sends = map (λ send. record { from = sender; to = send.0; time = time; msg = send.1 }) sends
 
 -- the world after a step of this node that sent and told this
 abbrev pub stepped : WorldState → ℕ → ℕ → List (ℕ × Msg) → List Event → WorldState
@@ -74,7 +77,7 @@ client_node_did w c received row = stepped (with_client_node w c row.next) c rec
 
 -- the world after a step of the controller
 abbrev pub control_did : WorldState → ℕ → Row ControlState → WorldState
-control_did w received row = stepped (record w { control = row.next }) controller received row.sends row.events
+control_did w received row = stepped (record w { control = row.next }) CONTROLLER received row.sends row.events
 
 -- the world after a step of sequencing replica i, whose number is `node`
 abbrev pub seq_did : WorldState → ℕ → ℕ → ℕ → Row SeqState → WorldState
@@ -215,7 +218,7 @@ abbrev pub peeked : WorldState → ℕ → ℕ → ℕ → Option Envelope → W
 peeked w c from to None = w
 peeked w c from to (Some envelope) =
     client_given w c
-    (PeekInput (claimed envelope.msg) from (ids_at w from to (node_of w.shape envelope.from)))
+    (PeekInput (claimed envelope.msg) envelope.time (envelope.from - FIRST_SHARD) from (ids_at w from to (node_of w.shape envelope.from)))
     (client_node w c)
 
 -- Crash
@@ -301,7 +304,7 @@ trim_refused_at w c floor (Some reader) =
 abbrev pub range_refused : ℕ → ℕ → ℕ → Option EventRefused
 range_refused from to stable =
     if nat_lt to from then Some Backward
-    else (if nat_lt width_limit (to - from) then Some Wide
+    else (if nat_lt READ_LIMIT (to - from) then Some Wide
     else (if nat_lt stable to then Some (NotYet stable)
     else None))
 
@@ -331,20 +334,13 @@ refusal w (Grace node) = step_refused_at w node (node_of w.shape node)
 refusal w (Crash node) = crash_refused_at w node (node_of w.shape node)
 refusal w (Suspect node) = suspect_refused_at w node (node_of w.shape node)
 
--- how many messages a world has at most, and how much they weigh together
-abbrev pub messages_limit : ℕ
-messages_limit = 1048576
-
-abbrev pub weight_limit : ℕ
-weight_limit = 268435456
-
 abbrev pub sent_weight : List Envelope → ℕ
 sent_weight sent = sum_by (λ envelope. weight_of envelope.msg) sent
 
 -- the world's messages are within the limits
 pub record IsWithinLimits (w : WorldState) : Type 0 where
-  pub in_number : length w.sent ≤ messages_limit
-  pub in_weight : sent_weight w.sent ≤ weight_limit
+  pub in_number : length w.sent ≤ MESSAGES_LIMIT
+  pub in_weight : sent_weight w.sent ≤ WEIGHT_LIMIT
 
 -- a refused event changes nothing
 abbrev pub accepted : WorldState → WorldEvent → Option EventRefused → WorldState

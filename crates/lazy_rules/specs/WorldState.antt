@@ -8,6 +8,7 @@ use Rattle.lazy_rules.specs.ControlState.{ControlState, first_control}
 use Rattle.lazy_rules.specs.ReaderState.{ReaderState, first_reader}
 use Rattle.lazy_rules.specs.SeqState.{SeqState, first_seq}
 use Rattle.lazy_rules.specs.ShardState.{ShardState, first_shard}
+use Rattle.view_config.specs.Nodes.{node_count}
 
 -- a world: the states of its nodes, all messages ever sent, and what the clients did and were told
 pub record WorldState : Type 0 where
@@ -27,10 +28,6 @@ pub record WorldState : Type 0 where
   pub history : List Event
   -- how many events were accepted
   pub events : ℕ
-
--- one more than the greatest number of a node
-abbrev pub node_count : ℕ
-node_count = 296
 
 -- where replica j of shard i stands among all
 abbrev pub shard_place : Dimensions → ℕ → ℕ → ℕ

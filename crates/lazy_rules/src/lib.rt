@@ -4,6 +4,10 @@
 //! them. There is no code here but laws, which say of the definitions what they are meant to be.
 #![tactic(auto)]
 
+mod limits;
 mod windows;
 
+pub use limits::{
+    FLIGHT_LIMIT, JOBS_LIMIT, MESSAGES_LIMIT, POSITION_LIMIT, RESENT_LIMIT, WEIGHT_LIMIT,
+};
 pub use windows::seen_after_marks;

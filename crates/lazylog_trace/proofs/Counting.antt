@@ -91,7 +91,7 @@ given_so w node input (Some Controller) = record { counted = omega arith; told =
 
 peeked_so : (w : WorldState) (c from to : ℕ) (envelope : Option Envelope) → Grows w (peeked w c from to envelope)
 peeked_so w c from to None = stays_so w
-peeked_so w c from to (Some envelope) = client_given_so w c (PeekInput (claimed envelope.msg) from (ids_at w from to (node_of w.shape envelope.from))) (client_node w c)
+peeked_so w c from to (Some envelope) = client_given_so w c (PeekInput (claimed envelope.msg) envelope.time (envelope.from - 264) from (ids_at w from to (node_of w.shape envelope.from))) (client_node w c)
 
 asked_so : (w : WorldState) (c : ℕ) (ask : AskOf) (reader : Option ReaderState) → Grows w (asked w c ask reader)
 asked_so w c ask None = stays_so w

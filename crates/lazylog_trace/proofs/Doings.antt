@@ -6,19 +6,20 @@ use Rattle.std.proofs.lemmas.Bool.{and_parts, and_from, leb-true, le-leb}
 use Rattle.lazy_msgs.specs.declared.input.WorldEvent.{WorldEvent}
 use Rattle.lazy_msgs.specs.declared.input.WorldEvent.TheVariants.{Deliver}
 use Rattle.lazy_msgs.specs.declared.refused.EventRefused.{EventRefused}
-use Rattle.lazy_rules.specs.WorldRules.{IsWithinLimits, after, accepted, happened, refusal, run, messages_limit, weight_limit, sent_weight}
+use Rattle.lazy_rules.specs.WorldRules.{IsWithinLimits, after, accepted, happened, refusal, run, sent_weight}
 use Rattle.lazy_rules.specs.WorldState.{WorldState}
 use Rattle.lazylog_trace.specs.declared.handling.Outcome.TheVariants.{Through, Spent}
 use Rattle.lazylog_trace.specs.Doing.{Did, LedTo, led_to, deliveries, did, handled, is_spent, is_within}
+use Rattle.lazy_rules.specs.declared.limits.TheConstants.{MESSAGES_LIMIT, WEIGHT_LIMIT}
 
 -- the limits, as a test
 within_true : (w : WorldState) → IsWithinLimits w → is_within w ≡ true
-within_true w h = and_from (nat_le (length w.sent) messages_limit) (nat_le (sent_weight w.sent) weight_limit) (le-leb (length w.sent) messages_limit h.in_number) (le-leb (sent_weight w.sent) weight_limit h.in_weight)
+within_true w h = and_from (nat_le (length w.sent) MESSAGES_LIMIT) (nat_le (sent_weight w.sent) WEIGHT_LIMIT) (le-leb (length w.sent) MESSAGES_LIMIT h.in_number) (le-leb (sent_weight w.sent) WEIGHT_LIMIT h.in_weight)
 
 true_within : (w : WorldState) → is_within w ≡ true → IsWithinLimits w
 true_within w h =
-    let parts = and_parts (nat_le (length w.sent) messages_limit) (nat_le (sent_weight w.sent) weight_limit) h in
-    record { in_number = leb-true (length w.sent) messages_limit parts.0; in_weight = leb-true (sent_weight w.sent) weight_limit parts.1 }
+    let parts = and_parts (nat_le (length w.sent) MESSAGES_LIMIT) (nat_le (sent_weight w.sent) WEIGHT_LIMIT) h in
+    record { in_number = leb-true (length w.sent) MESSAGES_LIMIT parts.0; in_weight = leb-true (sent_weight w.sent) WEIGHT_LIMIT parts.1 }
 
 beyond_false : (w : WorldState) → ¬ IsWithinLimits w → is_within w ≡ false
 beyond_false w h = by (is_within w) refl

@@ -9,12 +9,13 @@ use Rattle.rec_id.specs.declared.entry.Entry.{Entry}
 use Rattle.lazy_rules.specs.Holders.{holders}
 use Rattle.lazy_rules.specs.Lines.{line_told}
 use Rattle.lazy_rules.specs.WorldState.{WorldState}
-use Rattle.lazy_rules.specs.WorldRules.{after, happened, refusal, messages_limit, weight_limit, sent_weight}
+use Rattle.lazy_rules.specs.WorldRules.{after, happened, refusal, sent_weight}
 use Rattle.lazylog_trace.specs.declared.handling.Outcome.{Outcome}
 use Rattle.lazylog_trace.specs.declared.handling.Outcome.TheVariants.{Through, Spent}
 use Rattle.lazylog_trace.specs.declared.script.Command.{Command}
 use Rattle.lazylog_trace.specs.declared.script.Command.TheVariants.{Nothing, Append, Deliver, Flow, Lines}
 use Rattle.log_texts.specs.Texts.{event_text, refused_text, no_client_text, line_text, lost_text}
+use Rattle.lazy_rules.specs.declared.limits.TheConstants.{MESSAGES_LIMIT, WEIGHT_LIMIT}
 
 -- a text as a line
 abbrev pub as_line : List ℕ → List ℕ
@@ -41,7 +42,7 @@ pub record GoesOn (before after_it : WorldState) : Type 0 where
 
 -- the messages of the world are within its limits
 abbrev pub is_within : WorldState → Bool
-is_within w = nat_le (length w.sent) messages_limit && nat_le (sent_weight w.sent) weight_limit
+is_within w = nat_le (length w.sent) MESSAGES_LIMIT && nat_le (sent_weight w.sent) WEIGHT_LIMIT
 
 -- the event isn't refused, but the world would send more than it may
 abbrev pub is_spent : WorldState → WorldEvent → Bool

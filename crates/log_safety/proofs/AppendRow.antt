@@ -18,10 +18,10 @@ use Rattle.log_safety.proofs.Frames.{with_seq, client_beside_seq, member_beside_
 use Rattle.log_safety.proofs.Marking.{seen_cases, seen_still, seen_now, marks_cases, width-mark}
 use Rattle.log_safety.proofs.Clients.{stale_id_ended}
 use Rattle.rec_id.specs.Identity.{Identity}
-use Rattle.rec_id.specs.Marks.{window_of, mark}
+use Rattle.rec_id.specs.Marks.{span_of, mark}
 use Rattle.rec_id.specs.declared.event.Event.TheVariants.{Invoke}
 use Rattle.rec_id.specs.declared.marks.Marks.{Marks}
-use Rattle.view_config.specs.Limits.{window_of as width_of}
+use Rattle.view_config.specs.Limits.{window_of}
 use Rattle.view_config.specs.declared.edition.Mode.TheVariants.{M}
 use Rattle.view_config.specs.Nodes.{seq_id}
 use Rattle.view_config.specs.Shape.{Dimensions}
@@ -132,9 +132,9 @@ module _ (shape : Dimensions) (g : Ghost) (a : Parts) (i : ℕ) (inside : i < sh
       ]
 
       -- what is a whole window below them has ended
-      stale : (other : Identity) → 1 ≤ other.number → (other.client ≡ id.client) × (other.number + window_of marks.0 ≤ max marks.0.top id.number) → Finished a.history other
+      stale : (other : Identity) → 1 ≤ other.number → (other.client ≡ id.client) × (other.number + span_of marks.0 ≤ max marks.0.top id.number) → Finished a.history other
       stale other some h =
-          let width : window_of marks.0 ≡ width_of shape.edition = (agreed.seqs i inside).widths id.client marks.0 marks.1 in
+          let width : span_of marks.0 ≡ window_of shape.edition = (agreed.seqs i inside).widths id.client marks.0 marks.1 in
           let top = facts.tops id.client marks.0 marks.1 in
           let number = numbers.1 in
           let below = h.1 in

@@ -8,9 +8,9 @@ use Rattle.std.proofs.lemmas.List.FromFn.{get_or-map-range_with_len, length-map-
 use Rattle.log_safety.proofs.Parts.{Ghost, Parts, parts_of}
 use Rattle.log_safety.proofs.Facts.{HistoryFacts, ClientFacts, SeqFacts, MemberFacts}
 use Rattle.log_safety.proofs.Worlds.{Holds}
-use Rattle.rec_id.specs.Marks.{window_of, no_marks, stands_marked}
+use Rattle.rec_id.specs.Marks.{span_of, no_marks, stands_marked}
 use Rattle.rec_id.specs.declared.marks.Marks.{Marks}
-use Rattle.view_config.specs.Limits.{window_of as width_of}
+use Rattle.view_config.specs.Limits.{window_of}
 use Rattle.view_config.specs.Shape.{Dimensions}
 use Rattle.lazy_rules.specs.ClientState.{ClientState, first_client}
 use Rattle.lazy_rules.specs.SeqState.{first_seq, empty_window}
@@ -26,10 +26,10 @@ all_same n x y i h =
     let long = length-replicate n x in
     sym (get_or-replicate n i x y (omega arith)) ∙ get_or_from_slice_get (replicate n x) i y y h
 
-no_marks_width : (words : ℕ) → window_of (no_marks words) ≡ 64 * words
+no_marks_width : (words : ℕ) → span_of (no_marks words) ≡ 64 * words
 no_marks_width words = ap (λ (n : ℕ). 64 * n) (length-words_where words 0 (stands_marked 0 (λ other. false)))
 
-width_in_words : (edition : Edition) → 64 * (width_of edition / 64) ≡ width_of edition
+width_in_words : (edition : Edition) → 64 * (window_of edition / 64) ≡ window_of edition
 width_in_words One = refl
 width_in_words Two = refl
 
@@ -59,8 +59,8 @@ module _ (shape : Dimensions) where
     closed = λ n some below. absurd (omega arith);
   }
 
-  marks_first : (c : ℕ) (marks : Marks) → slice_get (empty_window shape) c ≡ Some marks → no_marks (width_of shape.edition / 64) ≡ marks
-  marks_first c marks h = all_same shape.clients (no_marks (width_of shape.edition / 64)) marks c h
+  marks_first : (c : ℕ) (marks : Marks) → slice_get (empty_window shape) c ≡ Some marks → no_marks (window_of shape.edition / 64) ≡ marks
+  marks_first c marks h = all_same shape.clients (no_marks (window_of shape.edition / 64)) marks c h
 
   seq_first : (i : ℕ) → SeqFacts shape i (first_seq shape i)
   seq_first i = record {
@@ -68,18 +68,18 @@ module _ (shape : Dimensions) where
     named = refl;
     viewed = refl;
     unbound = refl;
-    windows = length-replicate shape.clients (no_marks (width_of shape.edition / 64));
-    widths = λ c marks h. subst (λ (m : Marks). window_of m ≡ width_of shape.edition) (marks_first c marks h) (no_marks_width (width_of shape.edition / 64) ∙ width_in_words shape.edition);
+    windows = length-replicate shape.clients (no_marks (window_of shape.edition / 64));
+    widths = λ c marks h. subst (λ (m : Marks). span_of m ≡ window_of shape.edition) (marks_first c marks h) (no_marks_width (window_of shape.edition / 64) ∙ width_in_words shape.edition);
   }
 
   member_first : (i : ℕ) → MemberFacts shape g a (first_seq shape i)
   member_first i = record {
     distinct = tt;
-    seen = λ id there some h. let wrong = leb-true (id.number + width_of shape.edition) 0 (sym (has_seen-marked_all shape [] id there some) ∙ h) in absurd (omega arith);
+    seen = λ id there some h. let wrong = leb-true (id.number + window_of shape.edition) 0 (sym (has_seen-marked_all shape [] id there some) ∙ h) in absurd (omega arith);
     known = λ id h. absurd h;
     tops = λ c marks h.
         let within = slice_get_within (empty_window shape) c marks h in
-        let long = length-replicate shape.clients (no_marks (width_of shape.edition / 64)) in
+        let long = length-replicate shape.clients (no_marks (window_of shape.edition / 64)) in
         let next : (a.clients c).next ≡ 1 = ap (λ (x : ClientState). x.next) (client_is c (omega arith)) in
         let top : 0 ≡ marks.top = ap (λ (m : Marks). m.top) (marks_first c marks h) in
         omega arith;

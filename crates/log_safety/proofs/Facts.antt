@@ -4,14 +4,14 @@ use Rattle.list_facts.specs.Lists.{In, Each, Precedes, Distinct}
 use Rattle.log_safety.proofs.Parts.{Ghost, Parts, Finished, line_ids}
 use Rattle.rec_id.specs.Identity.{Identity}
 use Rattle.rec_id.specs.History.{finished_id, invoked_id}
-use Rattle.rec_id.specs.Marks.{window_of}
+use Rattle.rec_id.specs.Marks.{span_of}
 use Rattle.rec_id.specs.declared.event.Event.{Event}
 use Rattle.rec_id.specs.declared.event.Event.TheVariants.{Invoke, Acked}
 use Rattle.rec_id.specs.declared.item.Item.{Item}
 use Rattle.rec_id.specs.declared.marks.Marks.{Marks}
 use Rattle.view_config.specs.Config.{initial_config}
 use Rattle.view_config.specs.declared.edition.Mode.TheVariants.{M}
-use Rattle.view_config.specs.Limits.{window_of as width_of}
+use Rattle.view_config.specs.Limits.{window_of}
 use Rattle.view_config.specs.Nodes.{seq_id}
 use Rattle.view_config.specs.Shape.{Dimensions}
 use Rattle.lazy_rules.specs.ClientState.{ClientState, OpenAppend, id_of, lowest}
@@ -65,7 +65,7 @@ pub record ClientFacts (shape : Dimensions) (g : Ghost) (a : Parts) (c : ℕ) (k
   pub named : k.client ≡ c
   pub first : k.config ≡ initial_config shape
   pub numbered : 1 ≤ k.next
-  pub few : k.next ≤ lowest k.next k.unfinished + width_of shape.edition
+  pub few : k.next ≤ lowest k.next k.unfinished + window_of shape.edition
   pub rising : Rises 1 k.unfinished
   pub begun : (id : Identity) (bytes : List ℕ) → id.client ≡ c → In (Invoke id bytes) a.history → (1 ≤ id.number) × (id.number < k.next)
   pub opened : Each (OpenFacts shape g a k) k.unfinished
@@ -79,7 +79,7 @@ pub record SeqFacts (shape : Dimensions) (i : ℕ) (s : SeqState) : Type 0 where
   pub viewed : s.view ≡ first_view shape i
   pub unbound : s.bound ≡ 0
   pub windows : length s.window ≡ shape.clients
-  pub widths : (c : ℕ) (marks : Marks) → slice_get s.window c ≡ Some marks → window_of marks ≡ width_of shape.edition
+  pub widths : (c : ℕ) (marks : Marks) → slice_get s.window c ≡ Some marks → span_of marks ≡ window_of shape.edition
 
 -- an item was begun with its bytes, in Erwin-m
 pub record ItemFacts (shape : Dimensions) (history : List Event) (item : Item) : Type 0 where

@@ -5,7 +5,7 @@ use Rattle.std.proofs.lemmas.Bool.{and_parts, or_cases, or_left, or_right, eqb-t
 use Rattle.std.proofs.lemmas.Option.{get_or_from_slice_get}
 use Rattle.list_facts.proofs.Places.{at_set_cases}
 use Rattle.rec_id.specs.Identity.{Identity}
-use Rattle.rec_id.specs.Marks.{window_of, mark, no_marks}
+use Rattle.rec_id.specs.Marks.{span_of, mark, no_marks}
 use Rattle.rec_id.specs.declared.marks.Marks.{Marks}
 use Rattle.rec_id.specs.Identity.{same_id}
 use Rattle.lazy_rules.specs.Windows.{has_seen, marked_in, marks_of}
@@ -23,10 +23,10 @@ is_same a = rw (eq-eqb a.client a.client refl, eq-eqb a.number a.number refl) re
 
 module _ (window : List Marks) (id : Identity) (marks : Marks) (here : slice_get window id.client ≡ Some marks) where
   abbrev is_stale_then : Identity → Bool
-  is_stale_then other = eqb other.client id.client && leb (other.number + window_of marks) (max marks.top id.number)
+  is_stale_then other = eqb other.client id.client && leb (other.number + span_of marks) (max marks.top id.number)
 
   -- what is seen then is this identity, or was seen before, or is a whole window below the new top
-  pub seen_cases : (other : Identity) → 1 ≤ other.number → has_seen (marked_in window id) other ≡ true → (id ≡ other) ⊎ ((has_seen window other ≡ true) ⊎ ((other.client ≡ id.client) × (other.number + window_of marks ≤ max marks.top id.number)))
+  pub seen_cases : (other : Identity) → 1 ≤ other.number → has_seen (marked_in window id) other ≡ true → (id ≡ other) ⊎ ((has_seen window other ≡ true) ⊎ ((other.client ≡ id.client) × (other.number + span_of marks ≤ max marks.top id.number)))
   seen_cases other some h =
       let all : ((same_id id other || has_seen window other) || is_stale_then other) ≡ true = sym (seen_one_more window id other marks here some) ∙ h in
       elim (or_cases (same_id id other || has_seen window other) (is_stale_then other) all) [
@@ -35,8 +35,8 @@ module _ (window : List Marks) (id : Identity) (marks : Marks) (here : slice_get
           | inr before ↦ inr (inl before)
         ]
         | inr stale ↦
-            let parts = and_parts (eqb other.client id.client) (leb (other.number + window_of marks) (max marks.top id.number)) stale in
-            inr (inr (eqb-true other.client id.client parts.0, leb-true (other.number + window_of marks) (max marks.top id.number) parts.1))
+            let parts = and_parts (eqb other.client id.client) (leb (other.number + span_of marks) (max marks.top id.number)) stale in
+            inr (inr (eqb-true other.client id.client parts.0, leb-true (other.number + span_of marks) (max marks.top id.number) parts.1))
       ]
 
   pub seen_still : (other : Identity) → 1 ≤ other.number → has_seen window other ≡ true → has_seen (marked_in window id) other ≡ true
@@ -56,5 +56,5 @@ module _ (window : List Marks) (id : Identity) (marks : Marks) (here : slice_get
     | inr k ↦ inr k.1
   ]
 
-pub width-mark : (marks : Marks) (number : ℕ) → window_of (mark marks number) ≡ window_of marks
+pub width-mark : (marks : Marks) (number : ℕ) → span_of (mark marks number) ≡ span_of marks
 width-mark marks number = ap (λ (k : ℕ). 64 * k) (length-mark marks number)

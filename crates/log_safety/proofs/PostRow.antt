@@ -19,7 +19,7 @@ use Rattle.rec_id.specs.declared.event.Event.TheVariants.{Invoke}
 use Rattle.view_config.specs.declared.edition.Mode.{Mode}
 use Rattle.view_config.specs.declared.edition.Mode.TheVariants.{M, St}
 use Rattle.view_config.specs.Config.{first_seqs}
-use Rattle.view_config.specs.Limits.{window_of as width_of, record_limit}
+use Rattle.view_config.specs.Limits.{window_of, record_limit}
 use Rattle.view_config.specs.Nodes.{seq_id}
 use Rattle.view_config.specs.Shape.{Dimensions}
 use Rattle.lazy_msgs.specs.declared.msg.Msg.{Msg}
@@ -44,8 +44,8 @@ third_false false false true x y z h = cc
 third_false false false false x y z h = refl
 
 -- the next number is less than a window above the lowest open one
-pub post_near : (k : ClientState) (size : ℕ) → post_refusal k size ≡ None → k.next < lowest k.next k.unfinished + width_of k.shape.edition
-post_near k size h = leb-false (lowest k.next k.unfinished + width_of k.shape.edition) k.next (third_false (nat_lt (record_limit k.shape.edition) size) (k.next == 2 ^ 32 - 1) (nat_le (lowest k.next k.unfinished + width_of k.shape.edition) k.next) TooLong NumbersSpent (WindowFull (lowest k.next k.unfinished)) h)
+pub post_near : (k : ClientState) (size : ℕ) → post_refusal k size ≡ None → k.next < lowest k.next k.unfinished + window_of k.shape.edition
+post_near k size h = leb-false (lowest k.next k.unfinished + window_of k.shape.edition) k.next (third_false (nat_lt (record_limit k.shape.edition) size) (k.next == 2 ^ 32 - 1) (nat_le (lowest k.next k.unfinished + window_of k.shape.edition) k.next) TooLong NumbersSpent (WindowFull (lowest k.next k.unfinished)) h)
 
 -- in Erwin-m an append is sent to sequencing replicas alone
 abbrev data_to : ClientState → OpenAppend → ℕ → ℕ × Msg
@@ -107,7 +107,7 @@ module _ (shape : Dimensions) (g : Ghost) (a : Parts) (c : ℕ) (there : c < sha
     first = facts.first;
     numbered = omega arith;
     few =
-        let near : k.next < lowest k.next k.unfinished + width_of shape.edition = subst (λ (d : Dimensions). k.next < lowest k.next k.unfinished + width_of d.edition) facts.shaped (post_near k (length bytes) allowed) in
+        let near : k.next < lowest k.next k.unfinished + window_of shape.edition = subst (λ (d : Dimensions). k.next < lowest k.next k.unfinished + window_of d.edition) facts.shaped (post_near k (length bytes) allowed) in
         let same : lowest (k.next + 1) (k.unfinished ++ begun k bytes ∷ []) ≡ lowest k.next k.unfinished = lowest_more k.next k.unfinished (begun k bytes) refl in
         omega arith;
     rising = rises_more 1 k.next k.unfinished (begun k bytes) facts.rising (λ other h. (each_in (OpenFacts shape g a k) k.unfinished facts.opened other h).below) facts.numbered refl;

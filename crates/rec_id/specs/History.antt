@@ -1,4 +1,5 @@
 use Rattle.std.specs.Prelude.{◌≡◌, ◌≢◌, ℕ, ◌+◌, ◌<◌, Bool, true, false, List, [], ◌∷◌, length, Option, Some, None, option_and_then, slice_get}
+use Rattle.rec_id.specs.declared.limits.TheConstants.{READ_LIMIT}
 use Rattle.rec_id.specs.Identity.{Identity}
 use Rattle.rec_id.specs.declared.entry.Entry.{Entry}
 use Rattle.rec_id.specs.declared.event.Ask.{Ask}
@@ -80,7 +81,7 @@ asked_from (Tail from) = from
 -- the place up to which, and without which, the ask wants entries
 abbrev pub asked_to : Ask → ℕ
 asked_to (Range from to) = to
-asked_to (Tail from) = from + 256
+asked_to (Tail from) = from + READ_LIMIT
 
 abbrev pub is_tail : Ask → Bool
 is_tail (Range from to) = false

@@ -1,4 +1,5 @@
 use Rattle.std.specs.Prelude.{ℕ, ◌+◌, ◌*◌, ◌^◌, ◌%◌, ◌<◌, ◌≤◌, List, Bool, ◌&&◌, ◌==◌}
+use Rattle.rec_id.specs.declared.limits.TheConstants.{MAX_CLIENT}
 use Rattle.std.specs.List.{list_any}
 
 -- which client appended a record, and as which of its appends
@@ -8,7 +9,7 @@ pub record Identity : Type 0 where
 
 -- the numbers are in the limits of an identity
 pub record IsIdentity (id : Identity) : Type 0 where
-  pub client_in_range : id.client ≤ 255
+  pub client_in_range : id.client ≤ MAX_CLIENT
   pub numbered : 1 ≤ id.number
   pub number_in_range : id.number < 2 ^ 32
 

@@ -2,8 +2,8 @@ use Rattle.std.specs.Prelude.{ℕ, suc, zero, ◌+◌, ◌-◌, ◌*◌, ◌/◌
 use Rattle.rec_id.specs.declared.marks.Marks.{Marks}
 
 -- how many of a client's numbers, up to the greatest marked one, have a bit
-abbrev pub window_of : Marks → ℕ
-window_of marks = 64 * length marks.bits
+abbrev pub span_of : Marks → ℕ
+span_of marks = 64 * length marks.bits
 
 -- bit i of the words, the least significant of the first word being bit 0
 abbrev pub bit_of : List ℕ → ℕ → Bool
@@ -15,7 +15,7 @@ is_marked marks number = nat_le number marks.top && bit_of marks.bits (marks.top
 
 -- the number is too far below the greatest marked one to have a bit
 abbrev pub is_stale : Marks → ℕ → Bool
-is_stale marks number = nat_le (number + window_of marks) marks.top
+is_stale marks number = nat_le (number + span_of marks) marks.top
 
 -- the number is marked, or stale
 abbrev pub is_seen : Marks → ℕ → Bool

@@ -27,29 +27,29 @@ number_of tails_never_fall = 7
 number_of behind_read = 8
 number_of trims = 9
 
--- the clause holds of a pair of indices or places; one that speaks of one alone, of the first
-abbrev pub HoldsAt : Clause → List Event → List Entry → ℕ → ℕ → Type 0
-HoldsAt unique history line i j = UniqueAt line i j
-HoldsAt invoked history line i j = InvokedAt history line i
-HoldsAt finished history line i j = FinishedAt history line i
-HoldsAt ordered history line i j = OrderedAt history line i j
-HoldsAt slices history line i j = SlicesAt history line i
-HoldsAt covered history line i j = CoveredAt history line i j
-HoldsAt tails_never_fall history line i j = TailsNeverFallAt history i j
-HoldsAt behind_read history line i j = BehindReadAt history line i j
-HoldsAt trims history line i j = TrimsAt history i
+-- the clause is met by a pair of indices or places; one that speaks of one alone, of the first
+abbrev pub IsMetAt : Clause → List Event → List Entry → ℕ → ℕ → Type 0
+IsMetAt unique history line i j = UniqueAt line i j
+IsMetAt invoked history line i j = InvokedAt history line i
+IsMetAt finished history line i j = FinishedAt history line i
+IsMetAt ordered history line i j = OrderedAt history line i j
+IsMetAt slices history line i j = SlicesAt history line i
+IsMetAt covered history line i j = CoveredAt history line i j
+IsMetAt tails_never_fall history line i j = TailsNeverFallAt history i j
+IsMetAt behind_read history line i j = BehindReadAt history line i j
+IsMetAt trims history line i j = TrimsAt history i
 
--- the clause holds
-abbrev pub Holds : Clause → List Event → List Entry → Type 0
-Holds unique history line = Unique line
-Holds invoked history line = Invoked history line
-Holds finished history line = Finished history line
-Holds ordered history line = Ordered history line
-Holds slices history line = Slices history line
-Holds covered history line = Covered history line
-Holds tails_never_fall history line = TailsNeverFall history
-Holds behind_read history line = BehindRead history line
-Holds trims history line = Trims history
+-- the clause is met
+abbrev pub IsMet : Clause → List Event → List Entry → Type 0
+IsMet unique history line = Unique line
+IsMet invoked history line = Invoked history line
+IsMet finished history line = Finished history line
+IsMet ordered history line = Ordered history line
+IsMet slices history line = Slices history line
+IsMet covered history line = Covered history line
+IsMet tails_never_fall history line = TailsNeverFall history
+IsMet behind_read history line = BehindRead history line
+IsMet trims history line = Trims history
 
 -- one pair comes before another: its first number is less or, where they are the same, its second
 abbrev pub IsPairBefore : ℕ → ℕ → ℕ → ℕ → Type 0
@@ -57,6 +57,6 @@ IsPairBefore i j first second = (i < first) ⊎ ((i ≡ first) × (j < second))
 
 -- the clause is the first that is broken, and the pair the first that breaks it
 pub record IsFirstBroken (history : List Event) (line : List Entry) (clause : Clause) (first second : ℕ) : Type 0 where
-  pub earlier : (other : Clause) → number_of other < number_of clause → Holds other history line
-  pub broken : ¬ HoldsAt clause history line first second
-  pub least : (i j : ℕ) → IsPairBefore i j first second → HoldsAt clause history line i j
+  pub earlier : (other : Clause) → number_of other < number_of clause → IsMet other history line
+  pub broken : ¬ IsMetAt clause history line first second
+  pub least : (i j : ℕ) → IsPairBefore i j first second → IsMetAt clause history line i j

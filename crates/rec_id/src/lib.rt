@@ -9,6 +9,7 @@ mod bytes;
 mod entry;
 mod event;
 mod item;
+mod limits;
 mod lists;
 mod marks;
 mod record_id;
@@ -17,6 +18,7 @@ pub use bytes::Bytes;
 pub use entry::Entry;
 pub use event::{Ask, Event};
 pub use item::{Body, Cell, Item, copy_optional};
+pub use limits::{MAX_CLIENT, READ_LIMIT};
 pub use lists::{
     CellList, EventList, IdList, ItemList, Line, PlacedList, Text, TextList, WindowList, Words,
 };

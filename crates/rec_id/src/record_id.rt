@@ -3,6 +3,7 @@
 ghost use Rattle.std.specs.Prelude.{◌≡◌, ◌≢◌, ◌+◌, ◌*◌, ◌^◌, ◌%◌, ◌<◌, ◌≤◌, ◌↔◌, IsErrOf, IfOk, IfSome, IfNone, Some};
 ghost use Rattle.rec_id.specs.Identity.{Identity, IsIdentity, packed, shard_of};
 
+use crate::limits::MAX_CLIENT;
 use std::marker::Model;
 
 /// Why two numbers are no identity.
@@ -37,10 +38,10 @@ impl RecordId {
     /// The identity of these two numbers.
     pub fn new(client: u32, number: u32) -> Result<RecordId, IdError>
         ensures ok { IfOk result (λ id. id ≡ record { client = client; number = number }) }
-        ensures client_over { IsErrOf result IdError.ClientOver ↔ (255 < client) }
-        ensures zero_number { IsErrOf result IdError.ZeroNumber ↔ ((client ≤ 255) × (number ≡ 0)) }
+        ensures client_over { IsErrOf result IdError.ClientOver ↔ (MAX_CLIENT < client) }
+        ensures zero_number { IsErrOf result IdError.ZeroNumber ↔ ((client ≤ MAX_CLIENT) × (number ≡ 0)) }
     {
-        if client > 255 {
+        if client > MAX_CLIENT {
             return Err(IdError::ClientOver);
         }
         if number == 0 {
@@ -51,7 +52,7 @@ impl RecordId {
 
     pub fn client(self) -> u32
         ensures client { result ≡ self.client }
-        ensures within { result ≤ 255 }
+        ensures within { result ≤ MAX_CLIENT }
     {
         self.client
     }
@@ -80,7 +81,7 @@ impl RecordId {
     {
         let client = word / 0x1_0000_0000;
         let number = word % 0x1_0000_0000;
-        if client > 255 {
+        if client > u64::from(MAX_CLIENT) {
             return None;
         }
         if number == 0 {

@@ -60,7 +60,7 @@ pub halves_in_turn : (steps client_node_step node
 halves_in_turn = refl
 
 -- a peek tells the client what it was given, whatever it is at
-pub node_sees : (steps client_node_step node (Ask (Tail 0) ∷ Peek 3 1 (c# 0 1 ∷ c# 0 2 ∷ []) ∷ [])).events ≡ (Begin 0 1 (Tail 0) ∷ []) ∷ (Seen 0 1 (c# 0 1 ∷ c# 0 2 ∷ []) ∷ []) ∷ []
+pub node_sees : (steps client_node_step node (Ask (Tail 0) ∷ Peek 3 9 0 1 (c# 0 1 ∷ c# 0 2 ∷ []) ∷ [])).events ≡ (Begin 0 1 (Tail 0) ∷ []) ∷ (Seen 0 1 (c# 0 1 ∷ c# 0 2 ∷ []) ∷ []) ∷ []
 node_sees = refl
 
 -- why a read or a trim is refused: a client that isn't there, one that crashed, an edition that has no trim, and

@@ -9,7 +9,7 @@ use Rattle.std.proofs.lemmas.List.Sums.{sum_by-cons, count_by-le-length}
 use Rattle.std.proofs.lemmas.Nat.Bits.{bit_at-lt, same_from_bits_below}
 use Rattle.std.proofs.lemmas.Simd.{ones-mask_l}
 use Rattle.rec_id.specs.declared.marks.Marks.{Marks}
-use Rattle.rec_id.specs.Marks.{window_of, bit_of, bits_where, is_marked, stands_marked}
+use Rattle.rec_id.specs.Marks.{span_of, bit_of, bits_where, is_marked, stands_marked}
 use Rattle.seen_window.specs.Image.{marked_count}
 use Rattle.seen_window.proofs.BitLemmas.{same_digit}
 use Rattle.rec_id.proofs.MarkBits.{bit_in, bit_of-low, bit_of-high, bits_where-is, bits_where-lt, bit_in-bits_where}
@@ -80,10 +80,10 @@ module _ (marks : Marks) (formed : IsFormed (length marks.bits) marks) where
         formed.low i past ∙ sym (ap (λ (b : Bool). b && is_marked marks (marks.top - i)) (le-ltb i marks.top past))
   ]
 
-  pub marked_is : count_in (bit_of marks.bits) 0 (window_of marks) ≡ marked_count marks
+  pub marked_is : count_in (bit_of marks.bits) 0 (span_of marks) ≡ marked_count marks
   marked_is =
-      count_in-same (bit_of marks.bits) (stands_marked marks.top (is_marked marks)) 0 0 (window_of marks) (λ i below. bit_stands (0 + i))
+      count_in-same (bit_of marks.bits) (stands_marked marks.top (is_marked marks)) 0 0 (span_of marks) (λ i below. bit_stands (0 + i))
 
   pub marked_few : marked_count marks ≤ 64 * length marks.bits
   marked_few =
-      omega (arith, count_by-le-length (stands_marked marks.top (is_marked marks)) (range_with_len 0 (window_of marks)), length-range_with_len 0 (window_of marks))
+      omega (arith, count_by-le-length (stands_marked marks.top (is_marked marks)) (range_with_len 0 (span_of marks)), length-range_with_len 0 (span_of marks))

@@ -3,7 +3,7 @@ use Rattle.std.proofs.Common.{◌≡◌, ℕ, zero, suc, ◌+◌, ◌<◌, ◌�
 use Rattle.std.specs.List.{list_all, range_with_len}
 use Rattle.std.proofs.lemmas.Bool.{cases_lt, and_parts, and_from, or_cases, or_left, or_right, not-true, not_from_false, eqb-true, eq-eqb, ltb-true, lt-ltb, leb-true, le-leb}
 use Rattle.rec_id.specs.declared.marks.Marks.{Marks}
-use Rattle.rec_id.specs.Marks.{window_of, bit_of, no_marks}
+use Rattle.rec_id.specs.Marks.{span_of, bit_of, no_marks}
 use Rattle.seen_window.specs.Image.{marks_of, words_of, is_formed, is_image}
 use Rattle.rec_id.proofs.MarkBits.{bit_of-past}
 
@@ -42,11 +42,11 @@ pub formed_facts : (words : ℕ) (marks : Marks) → is_formed words marks ≡ t
 unfolding is_formed
 formed_facts words marks formed =
     let parts = and_parts (eqb (length marks.bits) words) _ formed in
-    let rest = and_parts (list_all (no_low marks) (range_with_len 0 (window_of marks))) (eqb marks.top 0 || bit_of marks.bits 0) parts.1 in
+    let rest = and_parts (list_all (no_low marks) (range_with_len 0 (span_of marks))) (eqb marks.top 0 || bit_of marks.bits 0) parts.1 in
     record {
       long = eqb-true (length marks.bits) words parts.0;
-      low = λ i past. elim (cases_lt i (window_of marks)) [
-        | inl inside ↦ elim (or_cases (ltb i marks.top) (not (bit_of marks.bits i)) (ap (no_low marks) (omega arith) ∙ range_at (no_low marks) (window_of marks) 0 rest.0 i inside)) [
+      low = λ i past. elim (cases_lt i (span_of marks)) [
+        | inl inside ↦ elim (or_cases (ltb i marks.top) (not (bit_of marks.bits i)) (ap (no_low marks) (omega arith) ∙ range_at (no_low marks) (span_of marks) 0 rest.0 i inside)) [
           | inl below ↦ absurd (omega (arith, ltb-true i marks.top below))
           | inr none ↦ not-true (bit_of marks.bits i) none
         ]
@@ -62,8 +62,8 @@ pub formed_test : (words : ℕ) (marks : Marks) → IsFormed words marks → is_
 unfolding is_formed
 formed_test words marks facts =
     and_from (eqb (length marks.bits) words) _ (eq-eqb (length marks.bits) words facts.long)
-    (and_from (list_all (no_low marks) (range_with_len 0 (window_of marks))) (eqb marks.top 0 || bit_of marks.bits 0)
-    (range_from (no_low marks) (window_of marks) 0 (λ i inside. ap (no_low marks) (omega arith) ∙ elim (cases_lt i marks.top) [
+    (and_from (list_all (no_low marks) (range_with_len 0 (span_of marks))) (eqb marks.top 0 || bit_of marks.bits 0)
+    (range_from (no_low marks) (span_of marks) 0 (λ i inside. ap (no_low marks) (omega arith) ∙ elim (cases_lt i marks.top) [
       | inl below ↦ or_left (ltb i marks.top) (not (bit_of marks.bits i)) (lt-ltb i marks.top below)
       | inr past ↦ or_right (ltb i marks.top) (not (bit_of marks.bits i)) (not_from_false (bit_of marks.bits i) (facts.low i past))
     ]))

@@ -4,7 +4,7 @@ use Rattle.std.proofs.lemmas.Bool.{cases_lt, cases_eq, and_left, or_right, eq-eq
 use Rattle.std.proofs.lemmas.List.{get_or-replicate, length-replicate, length-set, length-map, get_or-map}
 use Rattle.rec_id.specs.Identity.{Identity}
 use Rattle.rec_id.specs.declared.marks.Marks.{Marks}
-use Rattle.rec_id.specs.Marks.{window_of, bit_of, is_marked, is_stale, is_seen, stands_marked, mark, no_marks}
+use Rattle.rec_id.specs.Marks.{span_of, bit_of, is_marked, is_stale, is_seen, stands_marked, mark, no_marks}
 use Rattle.seen_window.specs.Image.{marks_of, words_of, no_image, top_in, seen_in, mark_in, marked_count, is_image, widened, widened_image}
 use Rattle.seen_window.specs.Seen.{was_marked, top_after, seen_after, marked_after, width_of, StandsFor}
 use Rattle.rec_id.proofs.MarkBits.{length-words_where}
@@ -15,7 +15,7 @@ use Rattle.seen_window.proofs.Standing.{absorbed, seen_where, seen_mark, count_w
 
 -- what a client's marks tell of these marks
 pub record ClientStands (window : ℕ) (marks : Marks) (ids : List Identity) (client : ℕ) : Type 0 where
-  pub width : window_of marks ≡ window
+  pub width : span_of marks ≡ window
   pub top : marks.top ≡ top_after ids client
   pub seen : (number : ℕ) → 1 ≤ number → is_seen marks number ≡ seen_after window ids client number
 
@@ -94,7 +94,7 @@ module _ (window : ℕ) (marks : Marks) (id : Identity) (ids : List Identity) (i
         let lifts : stale ≡ true → now ≡ true = λ old.
         le-leb (number + window) (top_after (id ∷ ids) id.client) (omega (arith, leb-true (number + window) (top_after ids id.client) old, own_top)) in
         seen_mark marks id.number number some
-        ∙ ap (λ (t : ℕ). (same || is_seen marks number) || leb (number + window_of marks) t) rises
+        ∙ ap (λ (t : ℕ). (same || is_seen marks number) || leb (number + span_of marks) t) rises
         ∙ ap (λ (w : ℕ). (same || is_seen marks number) || leb (number + w) (top_after (id ∷ ids) id.client)) is.width
         ∙ ap (λ (b : Bool). (same || b) || now) (is.seen number some)
         ∙ absorbed same was stale now lifts
@@ -193,7 +193,7 @@ module _ (image : List Marks) (id : Identity) (is : is_image image ≡ true) (in
       let marks = marks_of image id.client in
       let made = mark marks id.number in
       let same : marks_of marked id.client ≡ made = marked_same image is id.client inside id.number in
-      let width : window_of marks ≡ width_of image = ap (λ (n : ℕ). 64 * n) (client_formed image is id.client inside).long in
+      let width : span_of marks ≡ width_of image = ap (λ (n : ℕ). 64 * n) (client_formed image is id.client inside).long in
       ap (λ (m : Marks). is_seen m number) same ∙ seen_mark marks id.number number some
       ∙ ap (λ (w : ℕ). (eqb number id.number || is_seen marks number) || leb (number + w) made.top) width
       ∙ ap (λ (m : Marks). (eqb number id.number || is_seen marks number) || leb (number + width_of image) m.top) (sym same)
@@ -209,7 +209,7 @@ module _ (image : List Marks) (id : Identity) (is : is_image image ≡ true) (in
     | inr elsewhere ↦
         let marks = marks_of image other.client in
         let unchanged : marks_of marked other.client ≡ marks = marked_other image is id.client inside id.number other.client elsewhere in
-        let width : window_of marks ≡ width_of image = ap (λ (n : ℕ). 64 * n) (client_formed image is other.client within).long in
+        let width : span_of marks ≡ width_of image = ap (λ (n : ℕ). 64 * n) (client_formed image is other.client within).long in
         ap (λ (m : Marks). is_seen m other.number) unchanged
         ∙ twice (is_marked marks other.number) (is_stale marks other.number)
         ∙ ap (λ (w : ℕ). is_seen marks other.number || leb (other.number + w) marks.top) width
@@ -235,10 +235,10 @@ widened_seen marks number short some =
     let over : marks.top < number = leb-false number marks.top above in
     or_from (is_marked marks number) (is_stale marks number)
     (and_left (leb number marks.top) (bit_of marks.bits (marks.top - number)) above)
-    (lt-leb (number + window_of marks) marks.top (omega arith)) in
+    (lt-leb (number + span_of marks) marks.top (omega arith)) in
     let lifts : leb (number + 64 * 64) marks.top ≡ true → is_seen marks number ≡ true = λ far.
     or_right (is_marked marks number) (is_stale marks number)
-    (le-leb (number + window_of marks) marks.top (omega (arith, leb-true (number + 64 * 64) marks.top far))) in
+    (le-leb (number + span_of marks) marks.top (omega (arith, leb-true (number + 64 * 64) marks.top far))) in
     seen_where 64 marks.top (is_seen marks) number some
     ∙ unchanged (leb number marks.top) (is_seen marks number) (leb (number + 64 * 64) marks.top) closed lifts
 

@@ -2,7 +2,7 @@
 use Rattle.std.proofs.Common.{◌≡◌, ℕ, zero, suc, ◌+◌, ◌-◌, ◌*◌, ◌<◌, ◌≤◌, Bool, true, false, cond, ◌&&◌, ◌||◌, eqb, ltb, leb, length, max, inl, inr, sym, ap, ◌∙◌, refl, zero-add, add-zero, arith}
 use Rattle.std.proofs.lemmas.Bool.{cases_lt, and_left, and_right, or_right, ne_eqb, lt-ltb, le-ltb, le-leb, lt-leb, leb-true}
 use Rattle.rec_id.specs.declared.marks.Marks.{Marks}
-use Rattle.rec_id.specs.Marks.{window_of, bit_of, is_marked, is_stale, is_seen, stands_marked, marks_where, mark}
+use Rattle.rec_id.specs.Marks.{span_of, bit_of, is_marked, is_stale, is_seen, stands_marked, marks_where, mark}
 use Rattle.rec_id.proofs.MarkBits.{bit_of-words_where, length-words_where}
 use Rattle.seen_window.proofs.Counting.{count_in, one_if, count_in-suc, count_in-same, count_in-split}
 
@@ -14,7 +14,7 @@ module _ (words top : ℕ) (told : ℕ → Bool) (number : ℕ) (some : 1 ≤ nu
   abbrev stale : Bool
   stale = leb (number + 64 * words) top
 
-  long : window_of made ≡ 64 * words
+  long : span_of made ≡ 64 * words
   long = ap (λ (n : ℕ). 64 * n) (length-words_where words 0 (stands_marked top told))
 
   marked_above : top < number → is_marked made number ≡ false
@@ -57,7 +57,7 @@ module _ (marks : Marks) (number other : ℕ) (some : 1 ≤ other) where
   abbrev top : ℕ
   top = max marks.top number
 
-  pub seen_mark : is_seen (mark marks number) other ≡ ((eqb other number || is_seen marks other) || leb (other + window_of marks) top)
+  pub seen_mark : is_seen (mark marks number) other ≡ ((eqb other number || is_seen marks other) || leb (other + span_of marks) top)
   seen_mark =
       let told : ℕ → Bool = λ each. eqb each number || is_marked marks each in
       let closed : leb other top ≡ false → told other ≡ false = λ above. elim (cases_lt top other) [
@@ -66,11 +66,11 @@ module _ (marks : Marks) (number other : ℕ) (some : 1 ≤ other) where
             ∙ and_left (leb other marks.top) (bit_of marks.bits (marks.top - other)) (lt-leb other marks.top (omega arith))
         | inr under ↦ absurd (true_is_not (sym (le-leb other top under) ∙ above))
       ] in
-      let lifts : is_stale marks other ≡ true → leb (other + window_of marks) top ≡ true = λ stale.
-      le-leb (other + window_of marks) top (omega (arith, leb-true (other + window_of marks) marks.top stale)) in
+      let lifts : is_stale marks other ≡ true → leb (other + span_of marks) top ≡ true = λ stale.
+      le-leb (other + span_of marks) top (omega (arith, leb-true (other + span_of marks) marks.top stale)) in
       seen_where (length marks.bits) top told other some
-      ∙ guarded (leb other top) (told other) (leb (other + window_of marks) top) closed
-      ∙ sym (absorbed (eqb other number) (is_marked marks other) (is_stale marks other) (leb (other + window_of marks) top) lifts)
+      ∙ guarded (leb other top) (told other) (leb (other + span_of marks) top) closed
+      ∙ sym (absorbed (eqb other number) (is_marked marks other) (is_stale marks other) (leb (other + span_of marks) top) lifts)
     where
       true_is_not : true ≡ false → ⊥
       true_is_not wrong = cc

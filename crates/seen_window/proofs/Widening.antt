@@ -6,7 +6,7 @@ use Rattle.std.proofs.lemmas.List.{get_or_append_left, get_or-append_right, leng
 use Rattle.std.proofs.lemmas.Nat.{one_shl}
 use Rattle.std.proofs.lemmas.Nat.Bits.{bit_at-lt, bit_at_and, bit_at_ones, bit_at_ones_above}
 use Rattle.rec_id.specs.declared.marks.Marks.{Marks}
-use Rattle.rec_id.specs.Marks.{window_of, bit_of, is_marked, is_seen, stands_marked}
+use Rattle.rec_id.specs.Marks.{span_of, bit_of, is_marked, is_seen, stands_marked}
 use Rattle.seen_window.specs.Image.{widened}
 use Rattle.rec_id.proofs.MarkBits.{bit_in, bit_of-low}
 use Rattle.seen_window.proofs.Marking.{marks_are}
@@ -43,8 +43,8 @@ module _ (marks : Marks) (narrow : length marks.bits ≡ 4) (i k : ℕ) (low : k
   seen_near : place < marks.top → i < 4 → is_seen marks (marks.top - place) ≡ bit_of marks.bits place
   seen_near below near =
       let here : marks.top - (marks.top - place) ≡ place = omega arith in
-      ap (λ (b : Bool). (b && bit_of marks.bits (marks.top - (marks.top - place))) || leb (marks.top - place + window_of marks) marks.top) (le-leb (marks.top - place) marks.top (omega arith))
-      ∙ ap (λ (b : Bool). bit_of marks.bits (marks.top - (marks.top - place)) || b) (lt-leb (marks.top - place + window_of marks) marks.top (omega arith))
+      ap (λ (b : Bool). (b && bit_of marks.bits (marks.top - (marks.top - place))) || leb (marks.top - place + span_of marks) marks.top) (le-leb (marks.top - place) marks.top (omega arith))
+      ∙ ap (λ (b : Bool). bit_of marks.bits (marks.top - (marks.top - place)) || b) (lt-leb (marks.top - place + span_of marks) marks.top (omega arith))
       ∙ ap (λ (n : ℕ). bit_of marks.bits n || false) here ∙ or_none (bit_of marks.bits place)
     where
       or_none : (b : Bool) → (b || false) ≡ b
@@ -53,8 +53,8 @@ module _ (marks : Marks) (narrow : length marks.bits ≡ 4) (i k : ℕ) (low : k
 
   seen_far : place < marks.top → 4 ≤ i → is_seen marks (marks.top - place) ≡ true
   seen_far below far =
-      or_right (is_marked marks (marks.top - place)) (leb (marks.top - place + window_of marks) marks.top)
-      (le-leb (marks.top - place + window_of marks) marks.top (omega arith))
+      or_right (is_marked marks (marks.top - place)) (leb (marks.top - place + span_of marks) marks.top)
+      (le-leb (marks.top - place + span_of marks) marks.top (omega arith))
 
   module _ (ones : ℕ) (numbered : bit_of (ones ∷ []) k ≡ ltb place marks.top) where
     abbrev told : Bool

@@ -1,7 +1,7 @@
 use Rattle.std.specs.Prelude.{ℕ, Bool, not, ◌&&◌, ◌||◌, ◌==◌, nat_lt, nat_le, List, length, map, replicate, slice_index_or, slice_set, count_by}
 use Rattle.std.specs.List.{range_with_len, list_all}
 use Rattle.rec_id.specs.Identity.{Identity}
-use Rattle.rec_id.specs.Marks.{window_of, bit_of, is_marked, is_seen, stands_marked, marks_where, mark, no_marks}
+use Rattle.rec_id.specs.Marks.{span_of, bit_of, is_marked, is_seen, stands_marked, marks_where, mark, no_marks}
 use Rattle.rec_id.specs.declared.marks.Marks.{Marks}
 
 -- the marks of a client; those of no words where the image has none
@@ -28,7 +28,7 @@ mark_in image id = slice_set image id.client (mark (marks_of image id.client) id
 
 -- how many of the numbers that have a bit, from the greatest marked one down to 1, are marked
 abbrev pub marked_count : Marks → ℕ
-marked_count marks = count_by (stands_marked marks.top (is_marked marks)) (range_with_len 0 (window_of marks))
+marked_count marks = count_by (stands_marked marks.top (is_marked marks)) (range_with_len 0 (span_of marks))
 
 abbrev pub marked_in : List Marks → ℕ → ℕ
 marked_in image client = marked_count (marks_of image client)
@@ -37,7 +37,7 @@ marked_in image client = marked_count (marks_of image client)
 unfoldable pub is_formed : ℕ → Marks → Bool
 is_formed words marks =
     length marks.bits == words
-    && (list_all (λ i. nat_lt i marks.top || not (bit_of marks.bits i)) (range_with_len 0 (window_of marks))
+    && (list_all (λ i. nat_lt i marks.top || not (bit_of marks.bits i)) (range_with_len 0 (span_of marks))
     && (marks.top == 0 || bit_of marks.bits 0))
 
 -- the marks of 1 to 256 clients, all of 4 words or all of 64, in the form of a window

@@ -3,6 +3,7 @@
 ghost use Rattle.std.specs.Prelude.{◌≡◌, ◌<◌, ◌≤◌, IfOk};
 ghost use Rattle.view_config.specs.Config.{initial_config, first_seqs, first_copies};
 
+use crate::limits::{MAX_COPIES, MAX_SEQ, MAX_SHARDS};
 use crate::{Shape, seq_id, shard_id};
 use plain_lists::Sequence;
 use std::alloc::{AllocError, Global};
@@ -36,7 +37,7 @@ impl Clone for Config {
 
 #[tactic(auto, using(crate::proofs::Ranges::first_more))]
 fn first_seqs(alloc: Global, count: u32) -> Result<NodeList, AllocError>
-    requires { count ≤ 7 }
+    requires { count ≤ MAX_SEQ }
     ensures { IfOk result (λ nodes. nodes ≡ first_seqs count) }
 {
     let mut nodes = Sequence::new(alloc);
@@ -48,8 +49,8 @@ fn first_seqs(alloc: Global, count: u32) -> Result<NodeList, AllocError>
 
 #[tactic(auto, using(crate::proofs::Ranges::first_more))]
 fn first_copies(alloc: Global, shard: u32, copies: u32) -> Result<NodeList, AllocError>
-    requires shard { shard < 8 }
-    requires copies { copies ≤ 4 }
+    requires shard { shard < MAX_SHARDS }
+    requires copies { copies ≤ MAX_COPIES }
     ensures { IfOk result (λ nodes. nodes ≡ first_copies copies shard) }
 {
     let mut nodes = Sequence::new(alloc);

@@ -3,6 +3,10 @@
 ghost use Rattle.std.specs.Prelude.{◌≡◌};
 ghost use Rattle.view_config.specs.Limits.{window_of, record_limit, line_limit};
 
+use crate::limits::{
+    LINE_LIMIT_ONE, LINE_LIMIT_TWO, RECORD_LIMIT_ONE, RECORD_LIMIT_TWO, WINDOW_ONE, WINDOW_TWO,
+};
+
 /// How the data of a record gets to its shard.
 #[derive(Clone, Copy, Debug, PartialEq, Eq)]
 pub enum Mode {
@@ -25,8 +29,8 @@ impl Edition {
         ensures { result ≡ window_of self }
     {
         match self {
-            Edition::One => 256,
-            Edition::Two => 4_096,
+            Edition::One => WINDOW_ONE,
+            Edition::Two => WINDOW_TWO,
         }
     }
 
@@ -35,8 +39,8 @@ impl Edition {
         ensures { result ≡ record_limit self }
     {
         match self {
-            Edition::One => 4_096,
-            Edition::Two => 65_536,
+            Edition::One => RECORD_LIMIT_ONE,
+            Edition::Two => RECORD_LIMIT_TWO,
         }
     }
 
@@ -45,8 +49,8 @@ impl Edition {
         ensures { result ≡ line_limit self }
     {
         match self {
-            Edition::One => 5_000,
-            Edition::Two => 70_000,
+            Edition::One => LINE_LIMIT_ONE,
+            Edition::Two => LINE_LIMIT_TWO,
         }
     }
 }

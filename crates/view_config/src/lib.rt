@@ -6,6 +6,7 @@
 
 mod config;
 mod edition;
+mod limits;
 mod nodes;
 mod role;
 mod shape;
@@ -13,7 +14,13 @@ mod without;
 
 pub use config::{Config, NodeList, ShardList};
 pub use edition::{Edition, Mode};
-pub use nodes::{BOARD, CONTROLLER, Node, client_id, seq_id, shard_id};
+pub use limits::{
+    LINE_LIMIT_TWO, MAX_CLIENTS, MAX_COPIES, MAX_SEQ, MAX_SHARDS, RECORD_LIMIT_TWO, WINDOW_ONE,
+    WINDOW_TWO,
+};
+pub use nodes::{
+    BOARD, CONTROLLER, FIRST_SEQ, FIRST_SHARD, MAX_NODE, Node, client_id, seq_id, shard_id,
+};
 pub use role::Role;
 pub use shape::Shape;
 pub use without::ConfigError;

@@ -4,11 +4,24 @@
 ghost use Rattle.std.specs.Prelude.{◌≡◌, ◌+◌, ◌*◌, ◌<◌};
 ghost use Rattle.view_config.specs.Nodes.{seq_id, shard_id};
 
-/// The number of the controller.
-pub const CONTROLLER: u32 = 256;
+use crate::limits::{MAX_CLIENTS, MAX_COPIES, MAX_SEQ, MAX_SHARDS};
 
-/// The number of the board.
-pub const BOARD: u32 = 296;
+/// The number of the controller, behind those of the clients. The state that it takes at a change of
+/// view is a holder of the log under this number.
+pub const CONTROLLER: u32 = MAX_CLIENTS;
+
+/// The number of the first sequencing replica.
+pub const FIRST_SEQ: u32 = CONTROLLER + 1;
+
+/// The number of the first replica of the first shard. Each shard has the numbers of four replicas,
+/// however many it has.
+pub const FIRST_SHARD: u32 = FIRST_SEQ + MAX_SEQ;
+
+/// The number of the board, behind those of all nodes.
+pub const BOARD: u32 = FIRST_SHARD + MAX_SHARDS * MAX_COPIES;
+
+/// The greatest number of a node.
+pub const MAX_NODE: u32 = BOARD - 1;
 
 /// A node by its role.
 #[derive(Clone, Copy, Debug, PartialEq, Eq)]
@@ -23,7 +36,7 @@ pub enum Node {
 
 /// The number of client `c`.
 pub fn client_id(c: u32) -> u32
-    requires { c < 256 }
+    requires { c < MAX_CLIENTS }
     ensures { result ≡ c }
 {
     c
@@ -31,17 +44,17 @@ pub fn client_id(c: u32) -> u32
 
 /// The number of sequencing replica `i`.
 pub fn seq_id(i: u32) -> u32
-    requires { i < 7 }
+    requires { i < MAX_SEQ }
     ensures { result ≡ seq_id i }
 {
-    257 + i
+    FIRST_SEQ + i
 }
 
 /// The number of replica `j` of shard `i`.
 pub fn shard_id(i: u32, j: u32) -> u32
-    requires shard { i < 8 }
-    requires copy { j < 4 }
+    requires shard { i < MAX_SHARDS }
+    requires copy { j < MAX_COPIES }
     ensures { result ≡ shard_id i j }
 {
-    264 + 4 * i + j
+    FIRST_SHARD + MAX_COPIES * i + j
 }

@@ -1,8 +1,10 @@
 //! The shape of a log, within the limits.
 
 ghost use Rattle.std.specs.Prelude.{◌≡◌, ◌↔◌, IsSome, IfSome};
-ghost use Rattle.view_config.specs.Shape.{Dimensions, IsShape, node_of};
+ghost use Rattle.view_config.specs.Shape.{Dimensions, IsShape, node_of, shard_node_of};
 
+use crate::limits::{MAX_CLIENTS, MAX_COPIES, MAX_SEQ, MAX_SHARDS};
+use crate::nodes::{CONTROLLER, FIRST_SEQ, FIRST_SHARD};
 use crate::{Edition, Mode, Node};
 use std::marker::Model;
 
@@ -60,13 +62,13 @@ impl Shape {
         ensures value { IfSome result (λ shape. shape ≡ record { edition = edition; mode = mode; seq = seq; spares = spares; shards = shards; copies = copies; clients = clients }) }
         ensures valid { IsSome result ↔ IsShape (record { edition = edition; mode = mode; seq = seq; spares = spares; shards = shards; copies = copies; clients = clients }) }
     {
-        if seq < 1 || seq > 7 || spares > 7 - seq {
+        if seq < 1 || seq > MAX_SEQ || spares > MAX_SEQ - seq {
             return None;
         }
-        if shards < 1 || shards > 8 || copies < 1 || copies > 4 {
+        if shards < 1 || shards > MAX_SHARDS || copies < 1 || copies > MAX_COPIES {
             return None;
         }
-        if clients < 1 || clients > 256 {
+        if clients < 1 || clients > MAX_CLIENTS {
             return None;
         }
         Some(Shape {
@@ -88,14 +90,25 @@ impl Shape {
         if number < self.clients {
             return Some(Node::Client(number));
         }
-        if number == 256 {
+        if number == CONTROLLER {
             return Some(Node::Controller);
         }
-        if 257 <= number && number < 257 + self.seq + self.spares {
-            return Some(Node::Seq(number - 257));
+        if FIRST_SEQ <= number && number < FIRST_SEQ + self.seq + self.spares {
+            return Some(Node::Seq(number - FIRST_SEQ));
         }
-        if 264 <= number && number < 264 + 4 * self.shards && (number - 264) % 4 < self.copies {
-            return Some(Node::Shard((number - 264) / 4, (number - 264) % 4));
+        self.shard_node(number)
+    }
+
+    /// The shard replica of this number, `None` where the shape has none.
+    fn shard_node(&self, number: u32) -> Option<Node>
+        ensures { result ≡ shard_node_of self.now number }
+    {
+        if number < FIRST_SHARD || number >= FIRST_SHARD + MAX_COPIES * self.shards {
+            return None;
+        }
+        let copy = (number - FIRST_SHARD) % MAX_COPIES;
+        if copy < self.copies {
+            return Some(Node::Shard((number - FIRST_SHARD) / MAX_COPIES, copy));
         }
         None
     }

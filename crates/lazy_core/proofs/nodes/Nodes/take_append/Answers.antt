@@ -3,12 +3,12 @@ use Rattle.lazy_msgs.specs.declared.msg.Msg.TheVariants.{Append}
 use Rattle.lazy_rules.specs.SeqState.{SeqState}
 use Rattle.lazy_rules.specs.SeqRules.{seq_took}
 use Rattle.lazy_rules.specs.WorldState.{WorldState}
-use Rattle.lazy_rules.specs.WorldRules.{messages_limit}
 use Rattle.lazy_core.specs.Early.{IsSeqNode}
 use Rattle.lazy_core.specs.WorldView.{world_of}
 use Rattle.lazy_core.proofs.Keeping.{append_sound}
 use Rattle.lazy_core.proofs.Receiving.{seq_refused, seq_happened, seq_made, seq_within}
 use Rattle.lazy_core.proofs.nodes.Nodes.take_append.Goals as goal
+use Rattle.lazy_rules.specs.declared.limits.TheConstants.{MESSAGES_LIMIT}
 
 pub returns-in_err-append : goal.returns-in_err-append
 returns-in_err-append c =
@@ -29,7 +29,7 @@ invariant_of-self-2 c =
     let there : i < length w.seqs = rw c.self.invariant.seq_count (omega (arith, due.least, due.most)) in
     let timed : node < length w.times = rw c.self.invariant.time_count (omega (arith, due.most, c.self.invariant.shaped.seq_most)) in
     let past : received ≤ w.events = subst (λ (v : WorldState). received ≤ v.events) (sym c.self.view_is) c.requires.past in
-    let few : length w.sent + c.args.room ≤ messages_limit = subst (λ (v : WorldState). length v.sent + c.args.room ≤ messages_limit) (sym c.self.view_is) c.requires.room in
+    let few : length w.sent + c.args.room ≤ MESSAGES_LIMIT = subst (λ (v : WorldState). length v.sent + c.args.room ≤ MESSAGES_LIMIT) (sym c.self.view_is) c.requires.room in
     let within = seq_within w node i c.args.room received row held c.append.new.self c.in_ok-out.out c.append.new.out c.in_ok-out.ensures.outbox c.in_ok-append.ensures c.self.invariant.within.in_weight in
     rw (seq_made w node i c.args.room received row held c.append.new.self c.in_ok-out.out c.append.new.out c.self.inside.ledger c.outbox.new.self c.enter.new.self
     c.in_ok-out.ensures.outbox c.in_ok-append.ensures refl refl refl refl c.outbox.ensures.kept c.enter.ensures)

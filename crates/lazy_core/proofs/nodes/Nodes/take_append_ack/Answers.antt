@@ -3,11 +3,11 @@ use Rattle.lazy_msgs.specs.declared.msg.Msg.TheVariants.{AppendAck}
 use Rattle.lazy_rules.specs.ClientState.{ClientState}
 use Rattle.lazy_rules.specs.ClientRules.{client_took}
 use Rattle.lazy_rules.specs.WorldState.{WorldState}
-use Rattle.lazy_rules.specs.WorldRules.{messages_limit}
 use Rattle.lazy_core.specs.WorldView.{world_of}
 use Rattle.lazy_core.proofs.Keeping.{ack_sound}
 use Rattle.lazy_core.proofs.Receiving.{client_refused, client_happened, client_made, client_within}
 use Rattle.lazy_core.proofs.nodes.Nodes.take_append_ack.Goals as goal
+use Rattle.lazy_rules.specs.declared.limits.TheConstants.{MESSAGES_LIMIT}
 
 pub returns-in_err-append_ack : goal.returns-in_err-append_ack
 returns-in_err-append_ack c =
@@ -26,7 +26,7 @@ invariant_of-self-2 c =
     let there : node < length w.clients = subst (λ (v : WorldState). node < length v.clients) (sym c.self.view_is) c.requires.due in
     let timed : node < length w.times = rw c.self.invariant.time_count (omega (arith, c.self.invariant.client_count, c.self.invariant.shaped.clients_most)) in
     let past : received ≤ w.events = subst (λ (v : WorldState). received ≤ v.events) (sym c.self.view_is) c.requires.past in
-    let few : length w.sent + c.args.room ≤ messages_limit = subst (λ (v : WorldState). length v.sent + c.args.room ≤ messages_limit) (sym c.self.view_is) c.requires.room in
+    let few : length w.sent + c.args.room ≤ MESSAGES_LIMIT = subst (λ (v : WorldState). length v.sent + c.args.room ≤ MESSAGES_LIMIT) (sym c.self.view_is) c.requires.room in
     let within = client_within w node c.args.room received row held c.append_ack.new.self c.in_ok-out.out c.append_ack.new.out c.in_ok-out.ensures.outbox c.in_ok-append_ack.ensures c.self.invariant.within.in_weight in
     rw (client_made w node c.args.room received row held c.append_ack.new.self c.in_ok-out.out c.append_ack.new.out c.self.inside.ledger c.outbox.new.self c.enter.new.self
     c.in_ok-out.ensures.outbox c.in_ok-append_ack.ensures refl refl refl refl c.outbox.ensures.kept c.enter.ensures)
