@@ -8,10 +8,10 @@ use Rattle.rec_id.specs.Marks.{span_of, bit_of, is_marked, is_stale, is_seen, st
 use Rattle.seen_window.specs.Image.{marks_of, words_of, no_image, top_in, seen_in, mark_in, marked_count, is_image, widened, widened_image}
 use Rattle.seen_window.specs.Seen.{was_marked, top_after, seen_after, marked_after, width_of, StandsFor}
 use Rattle.rec_id.proofs.MarkBits.{length-words_where}
-use Rattle.seen_window.proofs.Counting.{count_in, count_in-same}
+use Rattle.seen_window.proofs.MarkedCounts.{count_in, count_in-same}
 use Rattle.seen_window.proofs.Formed.{IsFormed, image_facts, image_test}
 use Rattle.seen_window.proofs.Images.{where_formed, client_formed, marked_same, marked_other, marked_words}
-use Rattle.seen_window.proofs.Standing.{absorbed, seen_where, seen_mark, count_window}
+use Rattle.seen_window.proofs.ToldByMarks.{absorbed, seen_where, seen_mark, count_window}
 
 -- what a client's marks tell of these marks
 pub record ClientStands (window : ℕ) (marks : Marks) (ids : List Identity) (client : ℕ) : Type 0 where

@@ -1,9 +1,9 @@
 pub mod BitLemmas
-pub mod Moves
+pub mod BitMoves
 pub mod Formed
-pub mod Marking
-pub mod Counting
+pub mod OneMark
+pub mod MarkedCounts
 pub mod Images
-pub mod Widening
-pub mod Standing
+pub mod WiderMarks
+pub mod ToldByMarks
 pub mod LawLemmas

@@ -1,5 +1,5 @@
 use Rattle.std.proofs.Common.{◌∙◌}
-use Rattle.seen_window.proofs.Counting.{digits_are}
+use Rattle.seen_window.proofs.MarkedCounts.{digits_are}
 use Rattle.seen_window.proofs.bits.count_set.Goals as goal
 
 pub returns : goal.returns

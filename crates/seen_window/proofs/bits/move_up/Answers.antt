@@ -1,7 +1,7 @@
 use Rattle.std.proofs.Common.{◌≡◌, ℕ, ◌%◌, Fits, w64, get_or, length, arith, rules, ap, ◌∙◌}
 use Rattle.rec_id.specs.Marks.{bit_of}
 use Rattle.seen_window.proofs.BitLemmas.{bit_of-shifted_up}
-use Rattle.seen_window.proofs.Moves.{came_both}
+use Rattle.seen_window.proofs.BitMoves.{came_both}
 use Rattle.seen_window.proofs.bits.move_up.Goals as goal
 
 pub returns-then-by-gt0 : goal.returns-then-by-gt0

@@ -3,7 +3,7 @@ use Rattle.std.proofs.lemmas.Bool.{le-leb}
 use Rattle.rec_id.specs.declared.marks.Marks.{Marks}
 use Rattle.rec_id.specs.Marks.{bit_of}
 use Rattle.seen_window.proofs.Formed.{formed_facts}
-use Rattle.seen_window.proofs.Marking.{mark_is}
+use Rattle.seen_window.proofs.OneMark.{mark_is}
 use Rattle.seen_window.proofs.client.mark_bits.Goals as goal
 use Rattle.seen_window.proofs.client.mark_bits.Goals.{then-number-top, else-number-top}
 

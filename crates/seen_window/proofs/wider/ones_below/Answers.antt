@@ -1,5 +1,5 @@
 use Rattle.std.proofs.Common.{arith}
-use Rattle.seen_window.proofs.Widening.{all_ones, some_ones}
+use Rattle.seen_window.proofs.WiderMarks.{all_ones, some_ones}
 use Rattle.seen_window.proofs.wider.ones_below.Goals as goal
 
 pub returns-then-top-from-ge64 : goal.returns-then-top-from-ge64

@@ -1,7 +1,7 @@
 use Rattle.std.proofs.Common.{List, ℕ, ap, subst, ◌∙◌, arith}
 use Rattle.rec_id.specs.declared.marks.Marks.{Marks}
 use Rattle.rec_id.specs.Marks.{is_seen, stands_marked}
-use Rattle.seen_window.proofs.Widening.{Made, made_none, made_more, widened_is}
+use Rattle.seen_window.proofs.WiderMarks.{Made, made_none, made_more, widened_is}
 use Rattle.seen_window.proofs.wider.widen_marks.Goals as goal
 
 pub loop-i-init : goal.loop-i-init

@@ -1,5 +1,5 @@
 use Rattle.rec_id.specs.Marks.{is_seen, stands_marked}
-use Rattle.seen_window.proofs.Widening.{Made}
+use Rattle.seen_window.proofs.WiderMarks.{Made}
 use Rattle.seen_window.proofs.wider.widen_marks.Given as goal
 
 abbrev pub invariant-loop-i : goal.invariant-loop-i

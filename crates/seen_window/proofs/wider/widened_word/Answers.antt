@@ -1,7 +1,7 @@
 use Rattle.std.proofs.Common.{◌≡◌, ℕ, bit_and, get_or, [], ◌∷◌, sym, ap, ◌∙◌}
 use Rattle.std.proofs.lemmas.Option.{get_or_from_slice_get}
 use Rattle.rec_id.specs.Marks.{bit_of}
-use Rattle.seen_window.proofs.Widening.{near_word, far_word}
+use Rattle.seen_window.proofs.WiderMarks.{near_word, far_word}
 use Rattle.seen_window.proofs.wider.widened_word.Goals as goal
 
 pub returns-then-i-lt-NARROW : goal.returns-then-i-lt-NARROW

@@ -4,7 +4,7 @@ use Rattle.std.specs.List.{range_with_len}
 use Rattle.rec_id.specs.declared.marks.Marks.{Marks}
 use Rattle.rec_id.specs.Marks.{bit_of}
 use Rattle.seen_window.proofs.Formed.{formed_facts}
-use Rattle.seen_window.proofs.Counting.{marked_is, marked_few}
+use Rattle.seen_window.proofs.MarkedCounts.{marked_is, marked_few}
 use Rattle.seen_window.proofs.client.ClientMarks.marked.Goals as goal
 
 pub returns : goal.returns

@@ -1,6 +1,6 @@
 use Rattle.std.proofs.Common.{◌≡◌, ℕ, List, replicate, ap, ◌∙◌, rules}
 use Rattle.rec_id.specs.declared.marks.Marks.{Marks}
-use Rattle.seen_window.proofs.Marking.{no_marks_are}
+use Rattle.seen_window.proofs.OneMark.{no_marks_are}
 use Rattle.seen_window.proofs.client.ClientMarks.new.Goals as goal
 
 pub returns : goal.returns

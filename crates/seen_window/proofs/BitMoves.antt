@@ -34,6 +34,3 @@ module _ (words : List ℕ) (by whole : ℕ) (counted : whole ≡ min (by / 64) 
               ∙ sym (came_from by words j (k - 64 * whole) (omega arith))
         ]
   ]
-
-  pub came_whole : by % 64 ≡ 0 → bit_of moved j ≡ came by words j
-  came_whole none = sym (came_from (by % 64) moved j j (omega arith)) ∙ came_both

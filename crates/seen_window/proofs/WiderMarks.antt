@@ -9,7 +9,7 @@ use Rattle.rec_id.specs.declared.marks.Marks.{Marks}
 use Rattle.rec_id.specs.Marks.{span_of, bit_of, is_marked, is_seen, stands_marked}
 use Rattle.seen_window.specs.Image.{widened}
 use Rattle.rec_id.proofs.MarkBits.{bit_in, bit_of-low}
-use Rattle.seen_window.proofs.Marking.{marks_are}
+use Rattle.seen_window.proofs.OneMark.{marks_are}
 
 -- ---- the words of ones
 module _ (i k top : ℕ) (low : k < 64) where

@@ -4,7 +4,7 @@ use Rattle.std.proofs.lemmas.Bool.{cases_lt, and_left, and_right, or_right, ne_e
 use Rattle.rec_id.specs.declared.marks.Marks.{Marks}
 use Rattle.rec_id.specs.Marks.{span_of, bit_of, is_marked, is_stale, is_seen, stands_marked, marks_where, mark}
 use Rattle.rec_id.proofs.MarkBits.{bit_of-words_where, length-words_where}
-use Rattle.seen_window.proofs.Counting.{count_in, one_if, count_in-suc, count_in-same, count_in-split}
+use Rattle.seen_window.proofs.MarkedCounts.{count_in, one_if, count_in-suc, count_in-same, count_in-split}
 
 -- ---- seen by marks that are as told
 module _ (words top : ℕ) (told : ℕ → Bool) (number : ℕ) (some : 1 ≤ number) where
