@@ -31,11 +31,6 @@ goes_further {before = before} {coming_now = coming_now} first second = record {
   written = second.written ∙ ap (λ (known : Option (List ℕ)). append_known known second.piece) first.written ∙ append_known-append before first.piece second.piece;
 }
 
--- all that was to come was written
-pub goes_all : {before after : Option (List ℕ)} {coming : List ℕ} →
-    Goes before after coming [] → after ≡ append_known before coming
-goes_all {before = before} goes = goes.written ∙ ap (λ (bytes : List ℕ). append_known before bytes) (sym (goes.comes ∙ append-nil goes.piece))
-
 -- what goes may stop
 pub stops_going : {before after : Option (List ℕ)} {coming coming_now : List ℕ} →
     Goes before after coming coming_now → Stops before after coming
@@ -63,11 +58,6 @@ stops_within more comes stops = record { unwritten = stops.unwritten ++ more; go
 pub stops_further : {before between after : Option (List ℕ)} {coming coming_then : List ℕ} →
     Goes before between coming coming_then → Stops between after coming_then → Stops before after coming
 stops_further goes stops = record { unwritten = stops.unwritten; goes = goes_further goes stops.goes }
-
--- it failed where something was still to come
-pub fails_going : {before after : Option (List ℕ)} {coming coming_now : List ℕ} →
-    Goes before after coming coming_now → coming_now ≢ [] → Fails before after coming
-fails_going {coming_now = coming_now} goes some = record { unwritten = coming_now; goes = goes; some = some }
 
 no_less : (bytes more : List ℕ) → bytes ≢ [] → bytes ++ more ≢ []
 no_less [] more some e = some refl

@@ -114,10 +114,6 @@ abbrev pub invoke_of : Event → Option (Identity × List ℕ)
 invoke_of (Invoke id bytes) = Some (id, bytes)
 invoke_of _ = None
 
-pub invoke_is : (e : Event) (x : Identity × List ℕ) → invoke_of e ≡ Some x → e ≡ Invoke x.0 x.1
-invoke_is (Invoke id bytes) x h = let p : (id, bytes) ≡ x = cc in ap (λ (y : Identity × List ℕ). Invoke y.0 y.1) p
-invoke_is _ x h = cc
-
 abbrev pub acked_of : Event → Option Identity
 acked_of (Acked id) = Some id
 acked_of _ = None
