@@ -1,5 +1,5 @@
 -- Lists with another member at a place, or with a member less.
-use Rattle.std.proofs.Common.{◌≡◌, ◌⊎◌, ℕ, zero, suc, ◌+◌, ◌<◌, Some, List, [], ◌∷◌, ◌++◌, length, take, drop, slice_get, inl, inr, refl, sym, ap, ◌∙◌, subst, arith}
+use Rattle.std.proofs.Common.{◌≡◌, ◌⊎◌, ℕ, zero, suc, Some, List, [], ◌∷◌, slice_get, inl, inr, refl, sym, ap, subst}
 use Rattle.std.specs.Prelude.{slice_set, remove}
 use Rattle.list_facts.specs.Lists.{In, Each}
 

@@ -7,3 +7,4 @@ pub mod Distinctness
 pub mod Puts
 pub mod Changes
 pub mod Ranges
+pub mod Positions

@@ -1,7 +1,7 @@
 -- Members by their places.
 use Rattle.std.proofs.lemmas.Bool.{cond-false, le-ltb}
 use Rattle.std.specs.List.{position, position_or_len}
-use Rattle.std.proofs.Common.{◌≡◌, ℕ, zero, suc, ◌+◌, ◌<◌, Some, List, [], ◌∷◌, ◌++◌, length, slice_get, inl, inr, refl, ap, arith, ◌≢◌, ◌⊎◌, subst, Option, Bool, true, false, cond, ltb, None}
+use Rattle.std.proofs.Common.{◌≡◌, ℕ, zero, suc, ◌+◌, ◌<◌, Some, List, [], ◌∷◌, ◌++◌, length, slice_get, inl, inr, refl, ap, arith, ◌≢◌, ◌⊎◌, Bool, false, ltb, None}
 use Rattle.std.specs.Prelude.{slice_set}
 use Rattle.list_facts.specs.Lists.{In, Each}
 use Rattle.list_facts.proofs.Members.{each_in}

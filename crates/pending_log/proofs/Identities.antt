@@ -1,7 +1,7 @@
 -- Identities that are one, packed and unpacked, and lists of items without repeats.
 use Rattle.std.proofs.Common.{◌≡◌, ℕ, List, [], ◌∷◌, ◌++◌, Bool, true, false, not, cond, eqb, take, drop, inl, inr, sym, ap, ◌∙◌, refl, arith}
 use Rattle.std.specs.List.{filter}
-use Rattle.std.proofs.lemmas.Bool.{cases_eq, and_parts, and_from, and_left, and_right, or_parts, or_from, not-true, not_from_false, eqb-true, eq-eqb, ne_eqb}
+use Rattle.std.proofs.lemmas.Bool.{cases_eq, and_parts, and_from, and_left, and_right, or_parts, or_from, not-true, not_from_false, eqb-true, eq-eqb, ne_eqb, false_from_ne_true, true≢false}
 use Rattle.std.proofs.lemmas.List.Folds.{list_any-append}
 use Rattle.std.proofs.lemmas.List.{take-append-drop}
 use Rattle.rec_id.specs.Identity.{Identity, IsIdentity, packed}
@@ -22,16 +22,9 @@ pub same_from : (a b : Identity) → AreOne a b → same_id a b ≡ true
 same_from a b one =
     and_from (eqb a.client b.client) (eqb a.number b.number) (eq-eqb a.client b.client one.0) (eq-eqb a.number b.number one.1)
 
-false_unless : (b : Bool) → (b ≡ true → ⊥) → b ≡ false
-false_unless true never = absurd (never refl)
-false_unless false never = refl
-
-true_is_not_false : {b : Bool} → b ≡ true → b ≡ false → ⊥
-true_is_not_false holds fails = let wrong : true ≡ false = sym holds ∙ fails in cc
-
 pub not_same_turned : (a b : Identity) → same_id a b ≡ false → same_id b a ≡ false
-not_same_turned a b apart = false_unless (same_id b a) (λ same.
-    let one = same_parts b a same in true_is_not_false (same_from a b (sym one.0, sym one.1)) apart)
+not_same_turned a b apart = false_from_ne_true (same_id b a) (λ same.
+    let one = same_parts b a same in true≢false (sym (same_from a b (sym one.0, sym one.1)) ∙ apart))
 
 -- two that are one with a third are one
 pub same_by : (a b c : Identity) → same_id a b ≡ true → same_id a c ≡ true → same_id b c ≡ true

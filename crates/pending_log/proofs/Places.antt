@@ -1,8 +1,7 @@
 -- The first place of a word or of an identity.
-use Rattle.std.proofs.Common.{◌≡◌, ℕ, suc, ◌+◌, ◌-◌, ◌<◌, ◌≤◌, List, [], ◌∷◌, ◌++◌, Bool, true, false, not, cond, ◌||◌, eqb, ltb, Some, None, length, get_or, map, inl, inr, sym, ap, ◌∙◌, refl, arith}
-use Rattle.std.specs.Prelude.{is_some}
-use Rattle.std.specs.List.{position, position_or_len, list_any}
-use Rattle.std.proofs.lemmas.Bool.{cases_lt, lt-ltb, le-ltb}
+use Rattle.std.proofs.Common.{◌≡◌, ℕ, ◌+◌, ◌-◌, ◌<◌, ◌≤◌, List, [], ◌∷◌, ◌++◌, Bool, false, not, cond, eqb, ltb, Some, None, length, get_or, map, inl, inr, sym, ap, ◌∙◌, refl, arith}
+use Rattle.std.specs.List.{position, position_or_len}
+use Rattle.std.proofs.lemmas.Bool.{cases_lt, lt-ltb}
 use Rattle.std.proofs.lemmas.List.{length-append, length-map, get_or_append_left, get_or-append_right}
 use Rattle.std.proofs.lemmas.List.Quantifiers.{position-Some}
 use Rattle.std.proofs.lemmas.List.Sums.{fails_before_first}
@@ -92,23 +91,3 @@ place_of items id valid valid_id =
     let test : ℕ → Bool = λ word. eqb word (packed id) in
     ap (λ (n : ℕ). cond (ltb (position_or_len test words) n) (Some (position_or_len test words)) None) (length-map items word_of)
     ∙ ap (λ (n : ℕ). cond (ltb n (length items)) (Some n) None) (first_word items id valid valid_id)
-
--- ---- there is a place exactly where some item passes
-any_first : (p : Item → Bool) (items : List Item) → list_any p items ≡ ltb (position_or_len p items) (length items)
-any_first p [] = refl
-any_first p (x ∷ xs) = by_test (p x) (any_first p xs)
-  where
-    by_test : (b : Bool) → list_any p xs ≡ ltb (position_or_len p xs) (length xs)
-        → (b || list_any p xs) ≡ ltb (cond (not b) (1 + position_or_len p xs) 0) (suc (length xs))
-    by_test true rest = sym (lt-ltb 0 (suc (length xs)) (omega arith))
-    by_test false rest = rest ∙ elim (cases_lt (position_or_len p xs) (length xs)) [
-      | inl inside ↦ lt-ltb (position_or_len p xs) (length xs) inside ∙ sym (lt-ltb (1 + position_or_len p xs) (suc (length xs)) (omega arith))
-      | inr past ↦ le-ltb (position_or_len p xs) (length xs) past ∙ sym (le-ltb (1 + position_or_len p xs) (suc (length xs)) (omega arith))
-    ]
-
-some_if : (b : Bool) (n : ℕ) → is_some (cond b (Some n) None) ≡ b
-some_if true n = refl
-some_if false n = refl
-
-pub place_found : (p : Item → Bool) (items : List Item) → is_some (position p items) ≡ list_any p items
-place_found p items = some_if (ltb (position_or_len p items) (length items)) (position_or_len p items) ∙ sym (any_first p items)

@@ -98,15 +98,6 @@ pub record Turned (ids : List Identity) (before : List Item) (room count unmet k
   pub met_is : unmet + count ≡ length ids + kept
   pub room_is : now.capacity ≡ room
 
-pub turned_none : (ids : List Identity) (before : Pending) → Turned ids before.items before.capacity 0 (length ids) 0 before
-turned_none ids before = record {
-  within = omega arith;
-  items = sym (append-nil before.items);
-  kept_is = refl;
-  met_is = refl;
-  room_is = refl;
-}
-
 module _ (ids : List Identity) (before : List Item) (room count unmet kept : ℕ) (now : Pending) (turned : Turned ids before room count unmet kept now) where
   pub turned_length : length now.items + count ≡ length before + kept
   turned_length =
