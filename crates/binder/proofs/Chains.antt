@@ -50,14 +50,6 @@ start_same [] (y ∷ ys) same = absurd same
 start_same (x ∷ xs) [] same = absurd same
 start_same (x ∷ xs) (y ∷ ys) same = same.0
 
-pub end_same : (from : ℕ) (xs ys : List Batch) → SameSpans xs ys → flight_end from xs ≡ flight_end from ys
-end_same from [] [] same = refl
-end_same from [] (y ∷ ys) same = absurd same
-end_same from (x ∷ xs) [] same = absurd same
-end_same from (x ∷ xs) (y ∷ ys) same =
-    let ends : batch_end x ≡ batch_end y = omega (arith, same.0, same.1) in
-    end_same (batch_end x) xs ys same.2 ∙ ap (λ (n : ℕ). flight_end n ys) ends
-
 length_same : (xs ys : List Batch) → SameSpans xs ys → length xs ≡ length ys
 length_same [] [] same = refl
 length_same [] (y ∷ ys) same = absurd same
@@ -88,11 +80,6 @@ restart from (x ∷ xs) chain =
 pub chain_push : (from : ℕ) (xs : List Batch) (b : Batch) → IsChain from xs → IsNext (flight_end from xs) b → IsChain from (xs ++ b ∷ [])
 chain_push from [] b chain next = (next, tt)
 chain_push from (x ∷ xs) b chain next = (chain.0, chain_push (batch_end x) xs b chain.1 next)
-
--- the end doesn't hang on where an empty flight would begin
-pub end_again : (from : ℕ) (xs : List Batch) → flight_end (flight_end from xs) xs ≡ flight_end from xs
-end_again from [] = refl
-end_again from (x ∷ xs) = refl
 
 -- ---- the ordered ones first
 abbrev is_ordered : Batch → Bool
@@ -167,9 +154,6 @@ pub flight_passed : (shards : ℕ) (xs : List Batch) → IsFlight xs → IsFligh
 flight_passed shards xs flight =
     flight_same (passed shards xs) xs (same_passed shards xs) (first_passed shards xs flight.ordered_first) flight
 
-pub flight_none : IsFlight []
-flight_none = record { few = omega arith; chain = tt; ordered_first = refl }
-
 pub flight_begun : (from count : ℕ) (xs : List Batch) → length xs < FLIGHT_LIMIT → 1 ≤ count → count ≤ BATCH_LIMIT → flight_end from xs ≡ from → from + count < 2 ^ 32
     → IsFlight xs → IsFlight (with_batch xs from count)
 flight_begun from count [] room some most next within flight = record {
@@ -181,13 +165,6 @@ flight_begun from count (x ∷ xs) room some most next within flight = record {
   few = omega (arith, room, length_push (x ∷ xs) (new_batch from count));
   chain = chain_push x.from (x ∷ xs) (new_batch from count) flight.chain (record { begins = sym next; some = some; most = most; within = within });
   ordered_first = first_push (x ∷ xs) from count ∙ flight.ordered_first;
-}
-
-pub flight_rest : (x : Batch) (xs : List Batch) → IsFlight (x ∷ xs) → IsFlight xs
-flight_rest x xs flight = record {
-  few = omega (arith, flight.few);
-  chain = restart (batch_end x) xs flight.chain.1;
-  ordered_first = of_others x xs flight.ordered_first;
 }
 
 pub flight_placed : (shards shard upto : ℕ) (xs : List Batch) → IsFlight xs → IsFlight (placed_flight shards xs shard upto)

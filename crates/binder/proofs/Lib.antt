@@ -1,6 +1,6 @@
-pub mod Answering
+pub mod Rosters
 pub mod Waits
 pub mod Flights
 pub mod Chains
-pub mod Passing
-pub mod ReadyOnes
+pub mod PassedBatches
+pub mod ReadyReads

@@ -5,10 +5,12 @@ use Rattle.std.proofs.lemmas.Bool.{cases_lt, lt-ltb, ltb-true, cond_both, or_cas
 use Rattle.std.proofs.lemmas.List.{take_at, take_all, drop_all, append-nil, map_push, length-map}
 use Rattle.std.proofs.lemmas.Option.{cond_some, slice_get_past}
 use Rattle.std.proofs.lemmas.Map.Keys.{IsDistinct-head, IsDistinct-tail, IsDistinct-cons}
-use Rattle.lazy_rules.specs.Flight.{Probe, has_probe_of, is_ready, ready, after_ready}
+use Rattle.view_config.specs.declared.limits.TheConstants.{MAX_CLIENTS}
+use Rattle.lazy_rules.specs.Flight.{Probe, has_probe_of, is_ready, ready}
+use Rattle.binder.specs.Binding.{after_ready}
 use Rattle.lazy_rules.specs.Rows.{has_node}
 use Rattle.binder.specs.Held.{IsRoster, clients}
-use Rattle.binder.proofs.Answering.{few, with_answer, room_for}
+use Rattle.binder.proofs.Rosters.{few, with_answer, room_for}
 
 -- ---- whose they are
 pub client_is : (probes : List Probe) (client : ℕ) → has_node (clients probes) client ≡ has_probe_of probes client
@@ -21,25 +23,25 @@ clients_stay probe (x ∷ xs) =
     ap (λ (l : List ℕ). (cond (eqb x.client probe.client) probe x).client ∷ l) (clients_stay probe xs)
     ∙ ap (λ (c : ℕ). c ∷ clients xs) (cond_both (eqb x.client probe.client) probe x (λ p. p.client ≡ x.client) (λ same. sym (eqb-true x.client probe.client same)) (λ _. refl))
 
-pub few_reads : (probes : List Probe) (room : ℕ) → IsRoster 256 (clients probes) room → length probes ≤ 256
+pub few_reads : (probes : List Probe) (room : ℕ) → IsRoster MAX_CLIENTS (clients probes) room → length probes ≤ MAX_CLIENTS
 few_reads probes room roster =
-    omega (arith, few 256 (clients probes) roster.once roster.below, length-map probes (λ (p : Probe). p.client))
+    omega (arith, few MAX_CLIENTS (clients probes) roster.once roster.below, length-map probes (λ (p : Probe). p.client))
 
 pub roster_stays : (probe : Probe) (probes new : List Probe) (room : ℕ) → new ≡ map (λ other. cond (eqb other.client probe.client) probe other) probes
-    → IsRoster 256 (clients probes) room → IsRoster 256 (clients new) room
+    → IsRoster MAX_CLIENTS (clients probes) room → IsRoster MAX_CLIENTS (clients new) room
 roster_stays probe probes new room is roster =
-    subst (λ (nodes : List ℕ). IsRoster 256 nodes room) (sym (ap clients is ∙ clients_stay probe probes)) roster
+    subst (λ (nodes : List ℕ). IsRoster MAX_CLIENTS nodes room) (sym (ap clients is ∙ clients_stay probe probes)) roster
 
-pub roster_more : (probe : Probe) (probes : List Probe) (room : ℕ) → probe.client < 256 → has_probe_of probes probe.client ≡ false
-    → IsRoster 256 (clients probes) room → IsRoster 256 (clients (probes ++ probe ∷ [])) room
+pub roster_more : (probe : Probe) (probes : List Probe) (room : ℕ) → probe.client < MAX_CLIENTS → has_probe_of probes probe.client ≡ false
+    → IsRoster MAX_CLIENTS (clients probes) room → IsRoster MAX_CLIENTS (clients (probes ++ probe ∷ [])) room
 roster_more probe probes room inside new roster =
-    subst (λ (nodes : List ℕ). IsRoster 256 nodes room) (sym (map_push (λ (p : Probe). p.client) probes probe))
-    (with_answer 256 (clients probes) room roster probe.client inside (client_is probes probe.client ∙ new))
+    subst (λ (nodes : List ℕ). IsRoster MAX_CLIENTS nodes room) (sym (map_push (λ (p : Probe). p.client) probes probe))
+    (with_answer MAX_CLIENTS (clients probes) room roster probe.client inside (client_is probes probe.client ∙ new))
 
-pub room_more : (probe : Probe) (probes : List Probe) (room : ℕ) → probe.client < 256 → has_probe_of probes probe.client ≡ false
-    → IsRoster 256 (clients probes) room → length probes < room
+pub room_more : (probe : Probe) (probes : List Probe) (room : ℕ) → probe.client < MAX_CLIENTS → has_probe_of probes probe.client ≡ false
+    → IsRoster MAX_CLIENTS (clients probes) room → length probes < room
 room_more probe probes room inside new roster =
-    let more = room_for 256 (clients probes) room roster probe.client inside (client_is probes probe.client ∙ new) in
+    let more = room_for MAX_CLIENTS (clients probes) room roster probe.client inside (client_is probes probe.client ∙ new) in
     omega (arith, more, length-map probes (λ (p : Probe). p.client))
 
 module _ (bound : ℕ) where
@@ -65,7 +67,7 @@ module _ (bound : ℕ) where
         | inr later ↦ or_right (eqb x.client client) (has_node (clients xs) client) (has_left xs client later)
       ])
 
-  pub roster_left : (probes : List Probe) (room : ℕ) → IsRoster 256 (clients probes) room → IsRoster 256 (clients (after_ready bound probes)) room
+  pub roster_left : (probes : List Probe) (room : ℕ) → IsRoster MAX_CLIENTS (clients probes) room → IsRoster MAX_CLIENTS (clients (after_ready bound probes)) room
   roster_left probes room roster = record {
     once = once_left probes roster.once;
     below = λ client is. roster.below client (has_left probes client is);

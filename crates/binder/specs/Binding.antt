@@ -1,5 +1,5 @@
-use Rattle.std.specs.Prelude.{ℕ, List, [], length, ◌==◌, if◌then◌else◌}
-use Rattle.lazy_rules.specs.Flight.{Batch, Probe, has_placing, has_ordering, with_place, with_order, passed, passing, has_later_probe, with_probe}
+use Rattle.std.specs.Prelude.{ℕ, List, [], ◌∷◌, length, ◌==◌, if◌then◌else◌}
+use Rattle.lazy_rules.specs.Flight.{Batch, Probe, has_placing, has_ordering, with_place, with_order, passed, passing, has_later_probe, with_probe, is_finished, is_ready}
 use Rattle.binder.specs.declared.batch.Batch.{Batch as Outline}
 use Rattle.binder.specs.declared.batch.Progress.{Progress}
 use Rattle.binder.specs.declared.batch.Progress.TheVariants.{Ignored, Waiting, Passed}
@@ -49,3 +49,13 @@ ordered_progress flight upto = if has_ordering flight upto then Waiting else Ign
 abbrev pub probes_with : List Probe → Probe → List Probe
 probes_with probes probe =
     if has_later_probe probes probe.client probe.read then probes else with_probe probes probe
+
+-- the flight once its first batch has left, where it is finished
+abbrev pub after_finish : ℕ → List Batch → List Batch
+after_finish followers [] = []
+after_finish followers (batch ∷ others) = if is_finished followers batch then others else batch ∷ others
+
+-- the reads once the first that needn't wait has left
+abbrev pub after_ready : ℕ → List Probe → List Probe
+after_ready bound [] = []
+after_ready bound (probe ∷ others) = if is_ready bound probe then others else probe ∷ after_ready bound others

@@ -1,10 +1,10 @@
 //! The binder itself.
 
 ghost use Rattle.std.specs.Prelude.{◌≡◌, ℕ, ◌+◌, ◌^◌, ◌<◌, ◌≤◌, length, nat_lt, not, option_map, slice_get, Some, IfOk, is_some};
-ghost use Rattle.lazy_rules.specs.Flight.{Probe, flight_end, with_batch, lacks_place, lacks_order, finish, after_finish, has_later_probe, greatest, ready, after_ready};
+ghost use Rattle.lazy_rules.specs.Flight.{Probe, flight_end, with_batch, lacks_place, lacks_order, finish, has_later_probe, greatest, ready};
 ghost use Rattle.binder.specs.Held.{AllFor};
 ghost use Rattle.binder.specs.Sound.{IsFlight};
-ghost use Rattle.binder.specs.Binding.{first_binding, outline, probe_of, placed_flight, placed_progress, ordered_flight, ordered_progress, probes_with};
+ghost use Rattle.binder.specs.Binding.{first_binding, outline, probe_of, placed_flight, placed_progress, ordered_flight, ordered_progress, probes_with, after_finish, after_ready};
 
 use crate::batch::{Batch, Progress};
 use crate::flight::{order, place};
@@ -15,6 +15,7 @@ use lazy_msgs::BATCH_LIMIT;
 use lazy_rules::FLIGHT_LIMIT;
 use std::alloc::{AllocError, Global};
 use std::marker::Model;
+use view_config::MAX_CLIENTS;
 
 /// The batches of a leader that are on their way, at most four, and the reads that wait, at most one
 /// of each client. No call but [`Binder::new`] takes memory.
@@ -168,7 +169,7 @@ impl Binder {
     /// an older read of this client, or last. `false` where this read of the client or a later one
     /// waits; then nothing changes.
     pub fn probe(&mut self, client: u32, read: u32, target: u32) -> bool
-        requires { client < 256 }
+        requires { client < MAX_CLIENTS }
         ensures kept { result ≡ not (has_later_probe self.old.probes client read) }
         ensures next { self.new ≡ record self.old { probes = probes_with self.old.probes (record { client = client; read = read; target = target }) } }
     {
@@ -186,7 +187,7 @@ impl Binder {
     /// Whether a read waits.
     pub fn waiting(&self) -> bool
         ensures some { result ≡ nat_lt 0 (length self.now.probes) }
-        ensures few { length self.now.probes ≤ 256 }
+        ensures few { length self.now.probes ≤ MAX_CLIENTS }
     {
         !self.reads.is_empty()
     }

@@ -1,15 +1,13 @@
 //! The reads that wait, in the order in which they came, of each client one at most.
 
 ghost use Rattle.std.specs.Prelude.{◌≡◌, ◌<◌, ◌≤◌, [], length, map, option_map, if◌then◌else◌, IfOk, not, nat_lt, ◌==◌, position};
-ghost use Rattle.lazy_rules.specs.Flight.{has_probe_of, has_later_probe, with_probe, is_ready, ready, after_ready, greatest, greatest_from};
-ghost use Rattle.binder.specs.Binding.{probe_of};
+ghost use Rattle.lazy_rules.specs.Flight.{has_probe_of, has_later_probe, with_probe, is_ready, ready, greatest, greatest_from};
+ghost use Rattle.binder.specs.Binding.{probe_of, after_ready};
 
 use crate::probe::Probe;
 use std::alloc::{AllocError, Global};
 use std::marker::Model;
-
-/// How many clients there are at most.
-const CLIENT_LIMIT: usize = 256;
+use view_config::MAX_CLIENTS;
 
 /// One of the reads.
 #[derive(Drop)]
@@ -36,13 +34,14 @@ pub(crate) struct Reads {
 impl Model for Reads {
     ghost use Rattle.std.specs.Prelude.{List, vec_capacity};
     ghost use Rattle.lazy_rules.specs.Flight.{Probe};
+    ghost use Rattle.view_config.specs.declared.limits.TheConstants.{MAX_CLIENTS};
     ghost use Rattle.binder.specs.Held.{IsRoster, clients};
 
     ghost Value = { List Probe };
 
     ghost view = { λ a. a.waiting.items };
 
-    ghost invariant = { λ a. IsRoster 256 (clients a.waiting.items) (vec_capacity a.waiting) };
+    ghost invariant = { λ a. IsRoster MAX_CLIENTS (clients a.waiting.items) (vec_capacity a.waiting) };
 }
 
 impl Reads {
@@ -50,13 +49,13 @@ impl Reads {
         ensures { IfOk result (λ made. made ≡ []) }
     {
         Ok(Reads {
-            waiting: Vec::with_capacity(alloc, CLIENT_LIMIT)?,
+            waiting: Vec::with_capacity(alloc, MAX_CLIENTS as usize)?,
         })
     }
 
     pub(crate) fn is_empty(&self) -> bool
         ensures none { result ≡ not (nat_lt 0 (length self.now)) }
-        ensures few { length self.now ≤ 256 }
+        ensures few { length self.now ≤ MAX_CLIENTS }
     {
         self.waiting.is_empty()
     }
@@ -77,7 +76,7 @@ impl Reads {
 
     /// Puts a read in place of its client's, or last.
     fn put(&mut self, client: u32, number: u32, target: u32)
-        requires { client < 256 }
+        requires { client < MAX_CLIENTS }
         ensures { self.new ≡ with_probe self.old (record { client = client; read = number; target = target }) }
     {
         if self.waits(client) {
@@ -94,7 +93,7 @@ impl Reads {
     /// Keeps a read in place of its client's older one, or last, and says whether. It isn't kept where
     /// the same read of the client or a later one waits.
     pub(crate) fn keep(&mut self, client: u32, number: u32, target: u32) -> bool
-        requires { client < 256 }
+        requires { client < MAX_CLIENTS }
         ensures kept { result ≡ not (has_later_probe self.old client number) }
         ensures next { self.new ≡ (if has_later_probe self.old client number then self.old else with_probe self.old (record { client = client; read = number; target = target })) }
     {

@@ -95,14 +95,10 @@ passing shards (batch ∷ others) =
 abbrev pub is_finished : ℕ → Batch → Bool
 is_finished followers batch = batch.ordering && has_all followers batch.ordered
 
--- the first batch, where it is finished, and the flight once it has left
+-- the first batch, where it is finished
 abbrev pub finish : ℕ → List Batch → Option Batch
 finish followers [] = None
 finish followers (batch ∷ others) = if is_finished followers batch then Some batch else None
-
-abbrev pub after_finish : ℕ → List Batch → List Batch
-after_finish followers [] = []
-after_finish followers (batch ∷ others) = if is_finished followers batch then others else batch ∷ others
 
 -- a probe of this client waits, and one for this read of it or a later one
 abbrev pub has_probe_of : List Probe → ℕ → Bool
@@ -127,13 +123,9 @@ ready_probes bound probes = filter (is_ready bound) probes
 abbrev pub waiting_probes : ℕ → List Probe → List Probe
 waiting_probes bound probes = filter (λ probe. not (is_ready bound probe)) probes
 
--- the first probe that needn't wait, and the probes without it
+-- the first probe that needn't wait
 abbrev pub ready : ℕ → List Probe → Option Probe
 ready bound probes = find (is_ready bound) probes
-
-abbrev pub after_ready : ℕ → List Probe → List Probe
-after_ready bound [] = []
-after_ready bound (probe ∷ others) = if is_ready bound probe then others else probe ∷ after_ready bound others
 
 -- a probe waits for more than this position
 abbrev pub waits_above : List Probe → ℕ → Bool

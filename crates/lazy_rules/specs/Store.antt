@@ -198,10 +198,6 @@ recut store from items = extend (cut store from) items
 abbrev pub recut_cells : Store → ℕ → List Cell → Store
 recut_cells store from cells = extend_cells (cut store from) cells
 
--- the cells that items would become from this place on
-abbrev pub cells_of : Store → ℕ → List Item → List Cell
-cells_of store from items = drop from (recut store from items).order
-
 abbrev pub raise_stable : Store → ℕ → Store
 raise_stable store to = record store { stable = to }
 

@@ -1,7 +1,7 @@
 -- A walk through the cells of a bucket, from the last to the first.
 use Rattle.std.proofs.Common.{◌≡◌, ℕ, ◌+◌, ◌-◌, ◌<◌, ◌≤◌, List, Bool, true, false, eqb, ltb, Option, Some, None, length, get_or, inl, inr, sym, ap, ◌∙◌, refl, arith}
 use Rattle.std.specs.List.{position, position_or_len}
-use Rattle.std.proofs.lemmas.Bool.{cases_lt, and_parts, eqb-true, cond-true, cond-false, lt-ltb, le-ltb}
+use Rattle.std.proofs.lemmas.Bool.{cases_lt, and_parts, eqb-true, cond-true, cond-false, lt-ltb, le-ltb, false_from_ne_true}
 use Rattle.std.proofs.lemmas.List.Sums.{position_or_len_is}
 use Rattle.rec_id.specs.Identity.{Identity}
 use Rattle.rec_id.specs.declared.item.Cell.{Cell}
@@ -29,10 +29,6 @@ same_bucket size a b same =
     let parts = and_parts (eqb a.client b.client) (eqb a.number b.number) same in
     ap (λ (c : ℕ). bucket size (record { client = c; number = a.number })) (eqb-true a.client b.client parts.0)
     ∙ ap (λ (n : ℕ). bucket size (record { client = b.client; number = n })) (eqb-true a.number b.number parts.1)
-
-false_unless : (b : Bool) → (b ≡ true → ⊥) → b ≡ false
-false_unless true never = absurd (never refl)
-false_unless false never = refl
 
 module _ (size : ℕ) (kind : Kind) (id : Identity) (cells : List Cell) where
   abbrev pub test : Cell → Bool
@@ -63,7 +59,7 @@ module _ (size : ℕ) (kind : Kind) (id : Identity) (cells : List Cell) where
       record {
         within = omega arith;
         own = λ some. last_hits (tag_in size cells) (bucket size id) n some;
-        first = lower end n found within (λ k past early. false_unless (test (get_or cells k blank)) (λ holds.
+        first = lower end n found within (λ k past early. false_from_ne_true (test (get_or cells k blank)) (λ holds.
             last_misses (tag_in size cells) (bucket size id) n k past early
             (same_bucket size (get_or cells k blank).id id
             (and_parts (same_id (get_or cells k blank).id id) (is_of kind (get_or cells k blank).body) holds).0)))

@@ -3,7 +3,7 @@ use Rattle.std.proofs.Common.{◌≡◌, ℕ, List, [], ◌∷◌, ◌++◌, Boo
 use Rattle.std.specs.Prelude.{is_some}
 use Rattle.std.specs.Option.{option_or}
 use Rattle.std.specs.List.{list_any}
-use Rattle.std.proofs.lemmas.Bool.{or_parts}
+use Rattle.std.proofs.lemmas.Bool.{or_parts, true≢false}
 use Rattle.std.proofs.lemmas.List.{append_assoc, take-append-drop}
 use Rattle.rec_id.specs.Identity.{Identity}
 use Rattle.rec_id.specs.declared.item.Body.{Body}
@@ -15,8 +15,8 @@ use Rattle.shard_store.specs.Kinds.{is_kept}
 use Rattle.shard_store.specs.Settling.{has_in, held_after, held_again, held_again_all, held_beside_all, given_back, bytes_back, settled, settled_all}
 use Rattle.view_config.specs.declared.edition.Mode.{Mode}
 use Rattle.view_config.specs.declared.edition.Mode.TheVariants.{M, St}
-use Rattle.shard_store.proofs.Extending.{Pairs}
-use Rattle.shard_store.proofs.Identities.{same_is, true_is_not_false}
+use Rattle.shard_store.proofs.Extensions.{Pairs}
+use Rattle.shard_store.proofs.Identities.{same_is}
 
 or_none : {X : Type 0} (x : Option X) → option_or x None ≡ x
 or_none None = refl
@@ -39,7 +39,7 @@ bytes_without (x ∷ xs) gone id = by_test (same_id x.0 gone) refl (bytes_withou
 
     kept : (same here : Bool) → same_id x.0 id ≡ here → same_id gone id ≡ same → same_id x.0 gone ≡ false → held_bytes (without_held xs gone) id ≡ cond same None (held_bytes xs id)
         → cond here (Some x.1) (held_bytes (without_held xs gone) id) ≡ cond same None (cond here (Some x.1) (held_bytes xs id))
-    kept true true first second apart rest = absurd (true_is_not_false (same_id x.0 gone) (subst (λ (one : Identity). same_id x.0 one ≡ true) (sym (same_is gone id second)) first) apart)
+    kept true true first second apart rest = absurd (true≢false (sym (subst (λ (one : Identity). same_id x.0 one ≡ true) (sym (same_is gone id second)) first) ∙ apart))
     kept true false first second apart rest = rest
     kept false true first second apart rest = refl
     kept false false first second apart rest = rest

@@ -12,9 +12,6 @@ use Rattle.shard_store.proofs.Identities.{apart_turned}
 abbrev pub Pair : Type 0
 Pair = Identity × List ℕ
 
-abbrev pub is_of_id : Identity → Pair → Bool
-is_of_id id one = same_id one.0 id
-
 -- ---- a record that isn't held
 pub absent_bytes : (held : List Pair) (id : Identity) → is_held held id ≡ false → held_bytes held id ≡ None
 absent_bytes [] id absent = refl

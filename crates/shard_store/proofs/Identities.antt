@@ -1,6 +1,6 @@
 -- Identities that are one.
 use Rattle.std.proofs.Common.{◌≡◌, ℕ, Bool, true, false, eqb, subst, sym, ap, ◌∙◌, refl}
-use Rattle.std.proofs.lemmas.Bool.{and_parts, and_from, eqb-true, eq-eqb}
+use Rattle.std.proofs.lemmas.Bool.{and_parts, and_from, eqb-true, eq-eqb, false_from_ne_true, true≢false}
 use Rattle.rec_id.specs.Identity.{Identity}
 use Rattle.rec_id.specs.Identity.{same_id}
 
@@ -15,13 +15,6 @@ same_is a b same =
 pub same_self : (a : Identity) → same_id a a ≡ true
 same_self a = and_from (eqb a.client a.client) (eqb a.number a.number) (eq-eqb a.client a.client refl) (eq-eqb a.number a.number refl)
 
-pub false_unless : (b : Bool) → (b ≡ true → ⊥) → b ≡ false
-false_unless true never = absurd (never refl)
-false_unless false never = refl
-
-pub true_is_not_false : (b : Bool) → b ≡ true → b ≡ false → ⊥
-true_is_not_false b holds fails = let wrong : true ≡ false = sym holds ∙ fails in cc
-
 pub apart_turned : (a b : Identity) → same_id a b ≡ false → same_id b a ≡ false
-apart_turned a b apart = false_unless (same_id b a) (λ same.
-    true_is_not_false (same_id a b) (subst (λ (x : Identity). same_id a x ≡ true) (sym (same_is b a same)) (same_self a)) apart)
+apart_turned a b apart = false_from_ne_true (same_id b a) (λ same.
+    true≢false (sym (subst (λ (x : Identity). same_id a x ≡ true) (sym (same_is b a same)) (same_self a)) ∙ apart))

@@ -1,13 +1,11 @@
 pub mod LinkLemmas
 pub mod FirstPlace
-pub mod Indexed
-pub mod Positions
+pub mod OrderIndex
 pub mod Identities
 pub mod Holdings
 pub mod HeldCells
-pub mod Closing
+pub mod CellBodies
 pub mod Searches
-pub mod Extending
-pub mod Keeping
-pub mod Fronts
+pub mod Extensions
+pub mod StoreFacts
 pub mod Forecasts

@@ -16,7 +16,7 @@ use Rattle.lazy_rules.specs.Store.{is_cell_of, is_open, bytes_in, kept_bytes}
 use Rattle.shard_store.specs.Kinds.{is_kept}
 use Rattle.shard_store.specs.Links.{blank}
 use Rattle.shard_store.specs.Sound.{is_open_in, is_open_at}
-use Rattle.shard_store.proofs.Positions.{position_some, none_passes}
+use Rattle.list_facts.proofs.Positions.{position_some, none_passes}
 
 pub is_some_map : {A B : Type 0} (f : A → B) (x : Option A) → is_some (option_map f x) ≡ is_some x
 is_some_map f None = refl
@@ -73,35 +73,6 @@ kept_nowhere (x ∷ xs) id none =
 
 pub kept_none : (cells : List Cell) (id : Identity) → None ≡ position (is_cell_of is_kept id) cells → kept_bytes cells id ≡ None
 kept_none cells id missing = kept_nowhere cells id (none_passes (is_cell_of is_kept id) cells missing)
-
--- ---- what stands below a place
-any_take : {X : Type 0} (p : X → Bool) (n : ℕ) (xs : List X) → position_or_len p xs < length xs → list_any p (take n xs) ≡ ltb (position_or_len p xs) n
-any_take p n [] inside = absurd (omega arith)
-any_take p zero (x ∷ xs) inside = sym (le-ltb (position_or_len p (x ∷ xs)) 0 (omega arith))
-any_take p (suc n) (x ∷ xs) inside = by_test (p x) (any_take p n xs) inside
-  where
-    by_test : (b : Bool) → (position_or_len p xs < length xs → list_any p (take n xs) ≡ ltb (position_or_len p xs) n)
-        → cond (not b) (1 + position_or_len p xs) 0 < suc (length xs) → (b || list_any p (take n xs)) ≡ ltb (cond (not b) (1 + position_or_len p xs) 0) (suc n)
-    by_test true rest inside = sym (lt-ltb 0 (suc n) (omega arith))
-    by_test false rest inside = rest (omega arith) ∙ elim (cases_lt (position_or_len p xs) n) [
-      | inl early ↦ lt-ltb (position_or_len p xs) n early ∙ sym (lt-ltb (1 + position_or_len p xs) (suc n) (omega arith))
-      | inr late ↦ le-ltb (position_or_len p xs) n late ∙ sym (le-ltb (1 + position_or_len p xs) (suc n) (omega arith))
-    ]
-
-pub below_some : {X : Type 0} (p : X → Bool) (n : ℕ) (xs : List X) (i : ℕ) → Some i ≡ position p xs → ltb i n ≡ list_any p (take n xs)
-below_some p n xs i found =
-    let facts = position_some p xs i found in
-    ap (λ (k : ℕ). ltb k n) facts.1 ∙ sym (any_take p n xs facts.0)
-
-none_below : {X : Type 0} (p : X → Bool) (n : ℕ) (xs : List X) → list_any p xs ≡ false → list_any p (take n xs) ≡ false
-none_below p zero xs none = refl
-none_below p (suc n) [] none = refl
-none_below p (suc n) (x ∷ xs) none =
-    let parts = or_parts (p x) (list_any p xs) none in
-    rw parts.0 (none_below p n xs parts.1)
-
-pub below_none : {X : Type 0} (p : X → Bool) (n : ℕ) (xs : List X) → None ≡ position p xs → false ≡ list_any p (take n xs)
-below_none p n xs missing = sym (none_below p n xs (none_passes p xs missing))
 
 -- ---- the first open cell of a record is open
 pub first_is_open : (cells : List Cell) (id : Identity) (found : Option ℕ) → found ≡ position (is_cell_of is_open id) cells → IfSome found (λ place. IsTrue (is_open_at cells place))

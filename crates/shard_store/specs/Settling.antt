@@ -1,4 +1,4 @@
-use Rattle.std.specs.Prelude.{ℕ, ◌+◌, ◌%◌, List, [], ◌∷◌, ◌++◌, Bool, ◌==◌, ◌||◌, if◌then◌else◌, Option, Some, None}
+use Rattle.std.specs.Prelude.{ℕ, ◌+◌, ◌%◌, List, [], ◌∷◌, ◌++◌, drop, Bool, ◌==◌, ◌||◌, if◌then◌else◌, Option, Some, None}
 use Rattle.std.specs.List.{list_any}
 use Rattle.std.specs.Option.{is_some}
 use Rattle.rec_id.specs.Identity.{Identity, shard_of}
@@ -8,7 +8,7 @@ use Rattle.rec_id.specs.declared.item.Cell.{Cell}
 use Rattle.rec_id.specs.declared.item.Item.{Item}
 use Rattle.view_config.specs.declared.edition.Mode.{Mode}
 use Rattle.view_config.specs.declared.edition.Mode.TheVariants.{M, St}
-use Rattle.lazy_rules.specs.Store.{filled_or_open, held_bytes, held_beside, has_data, is_cell_of, bytes_in, kept_bytes}
+use Rattle.lazy_rules.specs.Store.{filled_or_open, held_bytes, held_beside, has_data, is_cell_of, bytes_in, kept_bytes, Store, recut}
 
 -- the place belongs to this shard, of so many
 abbrev pub owns : Mode → ℕ → ℕ → ℕ → Identity → Bool
@@ -74,3 +74,7 @@ cut_count St count = count
 abbrev pub bytes_back : Mode → List Cell → List Cell → Identity → Option (List ℕ)
 bytes_back M cells tail id = None
 bytes_back St cells tail id = if list_any (is_cell_of has_data id) cells then None else kept_bytes tail id
+
+-- the cells that items would become from this place on
+abbrev pub cells_of : Store → ℕ → List Item → List Cell
+cells_of store from items = drop from (recut store from items).order

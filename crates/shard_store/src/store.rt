@@ -1,7 +1,8 @@
 //! The store of a shard replica.
 
 ghost use Rattle.std.specs.Prelude.{◌≡◌, ◌+◌, ◌^◌, ◌<◌, ◌≤◌, [], Some, true, false, length, slice_get, IfOk, IfSome, OnOk, OnErr, option_map, IsTrue};
-ghost use Rattle.lazy_rules.specs.Store.{new_store, has, noop_at, open_at, first_open, has_open, has_open_below, bytes_of, hold, extend, extend_cells, fill, open_to_noop, open_count, raise_stable, part, trim, cut, recut, recut_cells, cells_of};
+ghost use Rattle.lazy_rules.specs.Store.{new_store, has, noop_at, open_at, first_open, has_open, has_open_below, bytes_of, hold, extend, extend_cells, fill, open_to_noop, open_count, raise_stable, part, trim, cut, recut, recut_cells};
+ghost use Rattle.shard_store.specs.Settling.{cells_of};
 ghost use Rattle.shard_store.specs.Sound.{IsSound, is_open_at};
 
 use crate::cutting::{cut_off, make_room};

@@ -2,7 +2,7 @@ use Rattle.std.proofs.Common.{◌≡◌, ◌<◌, ◌∷◌, [], ◌++◌, List,
 use Rattle.std.proofs.lemmas.Option.{get_or_from_slice_get}
 use Rattle.rec_id.specs.declared.item.Cell.{Cell}
 use Rattle.shard_store.specs.Settling.{drafts}
-use Rattle.shard_store.proofs.Extending.{drafts_more}
+use Rattle.shard_store.proofs.Extensions.{drafts_more}
 use Rattle.shard_store.proofs.drafts.draft_all.Goals as goal
 
 pub loop-i-preserved : goal.loop-i-preserved

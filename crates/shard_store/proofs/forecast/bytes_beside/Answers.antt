@@ -6,8 +6,8 @@ use Rattle.rec_id.specs.declared.item.Cell.{Cell}
 use Rattle.lazy_rules.specs.Store.{is_cell_of, held_bytes}
 use Rattle.shard_store.specs.Kinds.{is_kept}
 use Rattle.shard_store.specs.Settling.{given_back, held_beside_all}
-use Rattle.shard_store.proofs.Extending.{Pairs}
-use Rattle.shard_store.proofs.Positions.{position_any}
+use Rattle.shard_store.proofs.Extensions.{Pairs}
+use Rattle.list_facts.proofs.Positions.{position_any}
 use Rattle.shard_store.proofs.Forecasts.{bytes_beside}
 use Rattle.shard_store.proofs.forecast.bytes_beside.Goals as goal
 

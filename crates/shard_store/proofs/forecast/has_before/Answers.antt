@@ -1,6 +1,6 @@
 use Rattle.std.proofs.Common.{sym, ◌∙◌}
 use Rattle.lazy_rules.specs.Store.{is_cell_of, has_data}
-use Rattle.shard_store.proofs.Searches.{below_some, below_none}
+use Rattle.list_facts.proofs.Positions.{below_some, below_none}
 use Rattle.shard_store.proofs.forecast.has_before.Goals as goal
 
 pub returns-in-Some : goal.returns-in-Some

@@ -2,7 +2,7 @@ use Rattle.std.proofs.Common.{ℕ, ◌+◌, ◌<◌, ◌∷◌, List, length, dr
 use Rattle.std.proofs.lemmas.List.{drop_more}
 use Rattle.rec_id.specs.declared.item.Cell.{Cell}
 use Rattle.shard_store.specs.Places.{IsClosing}
-use Rattle.shard_store.proofs.Closing.{closing_inside, closing_step}
+use Rattle.shard_store.proofs.CellBodies.{closing_inside, closing_step}
 use Rattle.shard_store.proofs.order.close_cells.Goals as goal
 
 next_closing : (before now : List Cell) (opens : List ℕ) (i : ℕ) → i < length opens → IsClosing before now (drop i opens) → IsClosing before now (get_or opens i 0 ∷ drop (i + 1) opens)

@@ -1,7 +1,7 @@
 use Rattle.std.proofs.Common.{◌≡◌, false, sym, ap, ◌∙◌}
 use Rattle.std.specs.Prelude.{is_some}
 use Rattle.lazy_rules.specs.Store.{is_cell_of, has_data, held_bytes}
-use Rattle.shard_store.proofs.Positions.{position_any}
+use Rattle.list_facts.proofs.Positions.{position_any}
 use Rattle.shard_store.proofs.Searches.{is_some_map}
 use Rattle.shard_store.proofs.searching.has_data.Goals as goal
 

@@ -1,7 +1,7 @@
 use Rattle.std.proofs.Common.{◌≡◌, eqb, length, ap, ◌∙◌, rules}
 use Rattle.lazy_rules.specs.Flight.{has_all}
 use Rattle.binder.specs.Held.{Answering}
-use Rattle.binder.proofs.Answering.{all_there}
+use Rattle.binder.proofs.Rosters.{all_there}
 use Rattle.binder.proofs.answers.Answers.are_all.Goals as goal
 
 pub returns : goal.returns

@@ -1,7 +1,7 @@
 use Rattle.std.proofs.Common.{◌≡◌, ◌<◌, false, length, rules}
 use Rattle.std.specs.Prelude.{vec_capacity}
 use Rattle.lazy_rules.specs.Rows.{has_node}
-use Rattle.binder.proofs.Answering.{room_for, with_answer}
+use Rattle.binder.proofs.Rosters.{room_for, with_answer}
 use Rattle.binder.proofs.answers.Answers.note.Goals as goal
 
 pub push_reserved-requires : goal.push_reserved-requires

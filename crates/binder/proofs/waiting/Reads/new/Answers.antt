@@ -1,5 +1,5 @@
 use Rattle.std.proofs.Common.{arith}
-use Rattle.binder.proofs.Answering.{no_answers}
+use Rattle.binder.proofs.Rosters.{no_answers}
 use Rattle.binder.proofs.waiting.Reads.new.Goals as goal
 
 pub invariant_of-result : goal.invariant_of-result

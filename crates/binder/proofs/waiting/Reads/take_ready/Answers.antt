@@ -1,7 +1,8 @@
 use Rattle.std.proofs.Common.{◌≡◌, Some, None, length, refl, sym, ap, ◌∙◌, rules}
 use Rattle.std.specs.List.{position, slice_get}
 use Rattle.std.proofs.lemmas.Option.{slice_get_read}
-use Rattle.lazy_rules.specs.Flight.{is_ready, ready, after_ready}
+use Rattle.lazy_rules.specs.Flight.{is_ready, ready}
+use Rattle.binder.specs.Binding.{after_ready}
 use Rattle.binder.proofs.Waits.{found_ready, none_ready, roster_left}
 use Rattle.binder.proofs.waiting.Reads.take_ready.Goals as goal
 

@@ -9,7 +9,7 @@ use Rattle.shard_store.specs.Kinds.{is_kept}
 use Rattle.shard_store.specs.Links.{blank}
 use Rattle.shard_store.specs.Places.{Places}
 use Rattle.shard_store.specs.Holding.{Holding, is_distinct, records_in}
-use Rattle.shard_store.proofs.Positions.{position_some}
+use Rattle.list_facts.proofs.Positions.{position_some}
 use Rattle.shard_store.proofs.Searches.{kept_found, kept_none}
 use Rattle.shard_store.proofs.Holdings.{Pair, no_bytes_absent, absent_without, distinct_filter}
 use Rattle.shard_store.proofs.HeldCells.{held_is_kept, given_is_without}

@@ -5,7 +5,7 @@ use Rattle.rec_id.specs.declared.item.Cell.{Cell}
 use Rattle.lazy_rules.specs.Store.{is_open}
 use Rattle.shard_store.specs.Links.{blank}
 use Rattle.shard_store.specs.Places.{Places}
-use Rattle.shard_store.proofs.Closing.{indexed_closed}
+use Rattle.shard_store.proofs.CellBodies.{indexed_closed}
 use Rattle.shard_store.proofs.order.Order.close.Goals as goal
 
 pub invariant_of-self : goal.invariant_of-self

@@ -4,7 +4,7 @@ use Rattle.std.proofs.lemmas.List.{take_at}
 use Rattle.rec_id.specs.declared.item.Cell.{Cell}
 use Rattle.lazy_rules.specs.Store.{closed_cell}
 use Rattle.shard_store.specs.Places.{Places, IsClosing}
-use Rattle.shard_store.proofs.Closing.{is_open_cell, indexed_all_closed, closing_end, length-open_from, open_few}
+use Rattle.shard_store.proofs.CellBodies.{is_open_cell, indexed_all_closed, closing_end, length-open_from, open_few}
 use Rattle.shard_store.proofs.order.Order.close_all.Goals as goal
 
 closing : (c : goal.After-truncate) → IsClosing c.self.inside.cells.items c.close_cells.new.cells []

@@ -1,7 +1,7 @@
 use Rattle.std.proofs.Common.{ℕ, List, ap, ◌∙◌}
 use Rattle.std.specs.List.{position, slice_get}
 use Rattle.shard_store.specs.Places.{Places}
-use Rattle.shard_store.proofs.Closing.{is_open_cell, first_open_place}
+use Rattle.shard_store.proofs.CellBodies.{is_open_cell, first_open_place}
 use Rattle.shard_store.proofs.order.Order.first_open.Goals as goal
 
 pub returns : goal.returns

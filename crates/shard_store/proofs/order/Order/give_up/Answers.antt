@@ -2,7 +2,7 @@ use Rattle.std.proofs.Common.{◌≡◌, List, length, subst, ap, arith}
 use Rattle.std.proofs.lemmas.List.{take_at}
 use Rattle.rec_id.specs.declared.item.Cell.{Cell}
 use Rattle.shard_store.specs.Places.{Places, IsGivenUp}
-use Rattle.shard_store.proofs.Closing.{indexed_given_up}
+use Rattle.shard_store.proofs.CellBodies.{indexed_given_up}
 use Rattle.shard_store.proofs.order.Order.give_up.Goals as goal
 
 pub invariant_of-self : goal.invariant_of-self

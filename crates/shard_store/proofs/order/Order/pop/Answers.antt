@@ -3,7 +3,7 @@ use Rattle.std.specs.Vec.{vec_capacity}
 use Rattle.rec_id.specs.declared.item.Cell.{Cell}
 use Rattle.shard_store.specs.Links.{bucket}
 use Rattle.shard_store.specs.Places.{open_from, IsIndexed}
-use Rattle.shard_store.proofs.Indexed.{opens_before, indexed_pop}
+use Rattle.shard_store.proofs.OrderIndex.{opens_before, indexed_pop}
 use Rattle.shard_store.proofs.order.Order.pop.Goals as goal
 
 pub invariant_of-self : goal.invariant_of-self

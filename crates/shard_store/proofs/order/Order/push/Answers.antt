@@ -2,7 +2,7 @@ use Rattle.std.proofs.Common.{◌≡◌, ℕ, ◌+◌, ◌^◌, ◌<◌, ◌∷�
 use Rattle.std.proofs.lemmas.List.{get_or_read}
 use Rattle.shard_store.specs.Links.{bucket}
 use Rattle.shard_store.specs.Places.{Places, open_from}
-use Rattle.shard_store.proofs.Indexed.{indexed_push}
+use Rattle.shard_store.proofs.OrderIndex.{indexed_push}
 use Rattle.shard_store.proofs.order.Order.push.Goals as goal
 
 pub invariant_of-self : goal.invariant_of-self

@@ -5,7 +5,7 @@ use Rattle.rec_id.specs.declared.item.Cell.{Cell}
 use Rattle.lazy_rules.specs.Store.{given_up_cell}
 use Rattle.shard_store.specs.Links.{blank}
 use Rattle.shard_store.specs.Places.{Places, IsGivenUp}
-use Rattle.shard_store.proofs.Closing.{indexed_given_up, given_one}
+use Rattle.shard_store.proofs.CellBodies.{indexed_given_up, given_one}
 use Rattle.shard_store.proofs.order.Order.take_data.Goals as goal
 
 pub invariant_of-self : goal.invariant_of-self

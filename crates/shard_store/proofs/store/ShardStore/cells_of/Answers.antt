@@ -2,9 +2,9 @@ use Rattle.std.proofs.Common.{◌≡◌, ◌≤◌, List, length, take, drop, su
 use Rattle.std.specs.Result.{IfOk}
 use Rattle.std.proofs.lemmas.List.{length-take-le, drop_at}
 use Rattle.rec_id.specs.declared.item.Cell.{Cell}
-use Rattle.lazy_rules.specs.Store.{Store, cells_of}
-use Rattle.shard_store.specs.Settling.{drafts, settled_all, given_back}
-use Rattle.shard_store.proofs.Extending.{count_drafts, recut_is}
+use Rattle.lazy_rules.specs.Store.{Store}
+use Rattle.shard_store.specs.Settling.{drafts, settled_all, given_back, cells_of}
+use Rattle.shard_store.proofs.Extensions.{count_drafts, recut_is}
 use Rattle.shard_store.proofs.store.ShardStore.cells_of.Goals as goal
 
 pub foresee_all-requires : goal.foresee_all-requires

@@ -2,7 +2,7 @@ use Rattle.std.proofs.Common.{◌≡◌, List, take, drop, sym, ap, ◌∙◌}
 use Rattle.rec_id.specs.declared.item.Cell.{Cell}
 use Rattle.lazy_rules.specs.Store.{Store, cut}
 use Rattle.shard_store.specs.Settling.{given_back}
-use Rattle.shard_store.proofs.Extending.{Pairs, grown, cut_is}
+use Rattle.shard_store.proofs.Extensions.{Pairs, grown, cut_is}
 use Rattle.shard_store.proofs.store.ShardStore.cut.Goals as goal
 
 pub returns-clause-ok : goal.returns-clause-ok

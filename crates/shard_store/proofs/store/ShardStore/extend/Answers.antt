@@ -2,7 +2,7 @@ use Rattle.std.proofs.Common.{◌≡◌, ℕ, List, ◌++◌, length, sym, ap, �
 use Rattle.rec_id.specs.declared.item.Cell.{Cell}
 use Rattle.lazy_rules.specs.Store.{Store, extend}
 use Rattle.shard_store.specs.Settling.{drafts, settled_all, held_beside_all}
-use Rattle.shard_store.proofs.Extending.{Pairs, grown, count_drafts, extend_is}
+use Rattle.shard_store.proofs.Extensions.{Pairs, grown, count_drafts, extend_is}
 use Rattle.shard_store.proofs.store.ShardStore.extend.Goals as goal
 
 pub settle_all-requires : goal.settle_all-requires

@@ -2,7 +2,7 @@ use Rattle.std.proofs.Common.{◌≡◌, List, ◌++◌, sym, ap, ◌∙◌}
 use Rattle.rec_id.specs.declared.item.Cell.{Cell}
 use Rattle.lazy_rules.specs.Store.{Store, extend_cells}
 use Rattle.shard_store.specs.Settling.{held_beside_all}
-use Rattle.shard_store.proofs.Extending.{Pairs, grown, extend_cells_is}
+use Rattle.shard_store.proofs.Extensions.{Pairs, grown, extend_cells_is}
 use Rattle.shard_store.proofs.store.ShardStore.extend_cells.Goals as goal
 
 pub returns-clause-ok : goal.returns-clause-ok

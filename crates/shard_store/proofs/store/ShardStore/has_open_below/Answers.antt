@@ -1,7 +1,7 @@
 use Rattle.std.proofs.Common.{sym, ap, ◌∙◌}
 use Rattle.lazy_rules.specs.Store.{Store, has_open_below}
-use Rattle.shard_store.proofs.Closing.{is_open_cell}
-use Rattle.shard_store.proofs.Searches.{below_some, below_none}
+use Rattle.shard_store.proofs.CellBodies.{is_open_cell}
+use Rattle.list_facts.proofs.Positions.{below_some, below_none}
 use Rattle.shard_store.proofs.store.ShardStore.has_open_below.Goals as goal
 
 pub returns-in-Some : goal.returns-in-Some

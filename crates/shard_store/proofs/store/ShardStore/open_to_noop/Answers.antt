@@ -3,7 +3,7 @@ use Rattle.rec_id.specs.declared.item.Cell.{Cell}
 use Rattle.lazy_rules.specs.Store.{Store, closed_cell}
 use Rattle.shard_store.specs.Places.{Places}
 use Rattle.shard_store.specs.Sound.{IsSound}
-use Rattle.shard_store.proofs.Keeping.{sound_closed}
+use Rattle.shard_store.proofs.StoreFacts.{sound_closed}
 use Rattle.shard_store.proofs.store.ShardStore.open_to_noop.Goals as goal
 
 pub invariant_of-self : goal.invariant_of-self

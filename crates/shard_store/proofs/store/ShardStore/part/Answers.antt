@@ -4,7 +4,7 @@ use Rattle.std.proofs.lemmas.Bool.{cases_lt}
 use Rattle.std.proofs.lemmas.Option.{get_or_from_slice_get}
 use Rattle.rec_id.specs.declared.entry.Entry.{Entry}
 use Rattle.lazy_rules.specs.Store.{Store, placed_entry, entries_from, part}
-use Rattle.shard_store.proofs.Keeping.{entries_more}
+use Rattle.shard_store.proofs.StoreFacts.{entries_more}
 use Rattle.shard_store.proofs.store.ShardStore.part.Goals as goal
 
 pub loop-place-preserved : goal.loop-place-preserved

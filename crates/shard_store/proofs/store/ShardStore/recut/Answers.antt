@@ -4,8 +4,8 @@ use Rattle.rec_id.specs.declared.item.Cell.{Cell}
 use Rattle.lazy_rules.specs.Store.{Store, recut}
 use Rattle.shard_store.specs.Settling.{drafts, settled_all, held_beside_all, given_back}
 use Rattle.shard_store.specs.Sound.{IsSound}
-use Rattle.shard_store.proofs.Extending.{Pairs, grown, count_drafts, recut_is}
-use Rattle.shard_store.proofs.Keeping.{sound_recut}
+use Rattle.shard_store.proofs.Extensions.{Pairs, grown, count_drafts, recut_is}
+use Rattle.shard_store.proofs.StoreFacts.{sound_recut}
 use Rattle.shard_store.proofs.store.ShardStore.recut.Goals as goal
 
 pub settle_all-requires-clause-room : goal.settle_all-requires-clause-room

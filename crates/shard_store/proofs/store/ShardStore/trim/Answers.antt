@@ -1,7 +1,7 @@
 use Rattle.std.proofs.Common.{subst, ap, ◌∙◌, arith}
 use Rattle.lazy_rules.specs.Store.{Store, trim}
 use Rattle.shard_store.specs.Sound.{IsSound}
-use Rattle.shard_store.proofs.Keeping.{trim_is, trim_none}
+use Rattle.shard_store.proofs.StoreFacts.{trim_is, trim_none}
 use Rattle.shard_store.proofs.store.ShardStore.trim.Goals as goal
 
 pub returns-then-to-self : goal.returns-then-to-self

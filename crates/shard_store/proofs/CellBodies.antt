@@ -135,9 +135,6 @@ map_set [] k cell inside same = refl
 map_set (x ∷ xs) zero cell inside same = ap (λ (c : Cell). c ∷ map closed_cell xs) same
 map_set (x ∷ xs) (suc k) cell inside same = ap (λ (l : List Cell). closed_cell x ∷ l) (map_set xs k cell (omega arith) same)
 
-pub closing_start : (cells : List Cell) (opens : List ℕ) → opens ≡ open_from 0 cells → IsClosing cells cells opens
-closing_start cells opens is = record { len = refl; ids = λ k. refl; left = sym is; same = refl }
-
 module _ (before now : List Cell) (place : ℕ) (rest : List ℕ) (closing : IsClosing before now (place ∷ rest)) where
   first : IsFirstOpen 0 now place
   first = some_open 0 now place rest closing.left
@@ -273,27 +270,6 @@ module _ (cells : List Cell) (heads before opens : List ℕ) (spare cell_room be
           ∙ ap (λ (l : List ℕ). cond (is_open y.body) (n ∷ l) l) (same_opens (n + 1) xs ys (omega arith) (λ k. same (suc k)))
 
 -- ---- kept data is given up, place by place
-pub given_up_set : (from place : ℕ) (before now : List Cell) → from ≤ place → place < length before → IsGivenUp from place before now
-    → IsGivenUp from (place + 1) before (set now place (record { id = (get_or now place blank).id; body = given_up (get_or now place blank).body }))
-given_up_set from place before now start inside given =
-    let cell : Cell = record { id = (get_or now place blank).id; body = given_up (get_or now place blank).body } in
-    record {
-      len = length-set now place cell ∙ given.len;
-      within = λ k late early. elim (cases_eq k place) [
-        | inl here ↦
-            ap (λ (j : ℕ). get_or (set now place cell) j blank) here
-            ∙ get_or-set_same now place cell blank (omega (arith, given.len))
-            ∙ ap given_up_cell (given.above place (omega arith))
-            ∙ ap (λ (j : ℕ). given_up_cell (get_or before j blank)) (sym here)
-        | inr other ↦ get_or-set_other now place k cell blank other ∙ given.within k late (omega arith)
-      ];
-      below = λ k early. get_or-set_other now place k cell blank (λ here. absurd (omega arith)) ∙ given.below k early;
-      above = λ k late. get_or-set_other now place k cell blank (λ here. absurd (omega arith)) ∙ given.above k (omega arith);
-    }
-
-pub given_up_none : (from : ℕ) (cells : List Cell) → IsGivenUp from from cells cells
-given_up_none from cells = record { len = refl; within = λ k late early. absurd (omega arith); below = λ k early. refl; above = λ k late. refl }
-
 pub open_few : (n : ℕ) (cells : List Cell) → length (open_from n cells) ≤ length cells
 open_few n [] = omega arith
 open_few n (x ∷ xs) = by_test (is_open x.body) (open_few (n + 1) xs)

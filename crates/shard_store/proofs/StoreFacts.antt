@@ -13,7 +13,7 @@ use Rattle.shard_store.specs.Kinds.{is_kept}
 use Rattle.shard_store.specs.Links.{blank}
 use Rattle.shard_store.specs.Places.{IsGivenUp}
 use Rattle.shard_store.specs.Sound.{IsSound}
-use Rattle.shard_store.proofs.Extending.{Pairs, grown}
+use Rattle.shard_store.proofs.Extensions.{Pairs, grown}
 
 -- ---- all open cells become no-ops
 open_closed : (body : Body) → is_open (closed body) ≡ false

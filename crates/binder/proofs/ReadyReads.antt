@@ -2,7 +2,8 @@
 use Rattle.std.proofs.Common.{◌≡◌, ℕ, suc, List, [], ◌∷◌, inl, inr, ap, refl, length, Some, None}
 use Rattle.std.proofs.lemmas.Bool.{cases_Bool}
 use Rattle.std.proofs.lemmas.Option.{same_Some}
-use Rattle.lazy_rules.specs.Flight.{Probe, is_ready, ready, after_ready, ready_probes, waiting_probes}
+use Rattle.lazy_rules.specs.Flight.{Probe, is_ready, ready, ready_probes, waiting_probes}
+use Rattle.binder.specs.Binding.{after_ready}
 
 module _ (bound : ℕ) where
   pub none_left : (probes : List Probe) → ready bound probes ≡ None → (ready_probes bound probes ≡ []) × (waiting_probes bound probes ≡ probes)
