@@ -21,7 +21,7 @@ use Rattle.view_config.specs.declared.config.Config.{Config}
 use Rattle.view_config.specs.Limits.{record_limit}
 use Rattle.lazy_msgs.specs.Frame.{two, four, word_form, size_form, bytes_form, optional_form, list_form, id_form, item_form, body_form, cell_form, entry_form, placed_form, nodes_form, config_form, marks_form}
 use Rattle.lazy_msgs.specs.FrameLimits.{BytesFit, OptionalFits, ListFits, ItemFits, BodyFits, CellFits, EntryFits, PlacedFits, IsNode, NodesFit, ConfigFits, EndAt, MarksFit, WindowFits, words_of}
-use Rattle.wire_frames.specs.Reading.{Reader, ◌>>=◌, done, byte_at, part_at, number_at, allowed, limited, node_at, id_at, size_at, bytes_at, optional_at, item_at, body_at, cell_at, entry_at, placed_at, members_at, list_at, nodes_at, shards_at, config_at, words_in, end_at, are_bits, words_at, marks_at, window_at}
+use Rattle.wire_frames.specs.Readers.{Reader, ◌>>=◌, done, byte_at, part_at, number_at, allowed, limited, node_at, id_at, size_at, bytes_at, optional_at, item_at, body_at, cell_at, entry_at, placed_at, members_at, list_at, nodes_at, shards_at, config_at, words_in, end_at, are_bits, words_at, marks_at, window_at}
 use Rattle.wire_frames.proofs.FieldLengths.{length-words, length-word_form}
 use Rattle.wire_frames.proofs.Again.{Reads, reads_then, reads_allowed, reads_limited, reads_two, reads_four, reads_byte, reads_counted, reads_node, reads_part, reads_one, reads_two_fields, reads_three_fields}
 

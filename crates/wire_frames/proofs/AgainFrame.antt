@@ -13,7 +13,7 @@ use Rattle.lazy_msgs.specs.declared.msg.Msg.TheVariants.{Append, AppendAck, Put,
 use Rattle.lazy_msgs.specs.Frame.{two, eight, list_form, id_form, item_form, cell_form, placed_form, version_of, kind_of, fields_form, frame}
 use Rattle.lazy_msgs.specs.FrameLimits.{ListFits, ItemFits, CellFits, PlacedFits, MessageFits, Fits}
 use Rattle.wire_frames.specs.Laws.{OneForm}
-use Rattle.wire_frames.specs.Reading.{Taken, ◌>>=◌, done, node_at, addressee_at, time_at, id_at, item_at, cell_at, placed_at, list_at, fields_at, edition_at, kind_at, last_kind, envelope_at, frame_at, four_fields}
+use Rattle.wire_frames.specs.Readers.{Taken, ◌>>=◌, done, node_at, addressee_at, time_at, id_at, item_at, cell_at, placed_at, list_at, fields_at, edition_at, kind_at, last_kind, envelope_at, frame_at, four_fields}
 use Rattle.wire_frames.proofs.Again.{Reads, reads_then, reads_done, reads_four, reads_counted, reads_node, reads_addressee, reads_time, reads_one, reads_two_fields, reads_three_fields, reads_four_fields}
 use Rattle.wire_frames.proofs.AgainFields.{reads_id, reads_bytes, reads_optional, reads_item, reads_cell, reads_placed, reads_list, reads_config, reads_window}
 

@@ -4,7 +4,7 @@ use Rattle.std.specs.Prelude.{nat_lt, ◌&&◌, ◌↔◌, IsTrue}
 use Rattle.std.specs.Int.{w64, from_le_bytes}
 use Rattle.std.proofs.lemmas.Bool.{ltb-true}
 use Rattle.lazy_msgs.specs.FrameLimits.{EndAt}
-use Rattle.wire_frames.specs.Reading.{words_in, end_at}
+use Rattle.wire_frames.specs.Readers.{words_in, end_at}
 use Rattle.wire_frames.proofs.AgainFields.{end_at_true}
 
 pub one_more_word : (words : List ℕ) (count i : ℕ) (bytes total : List ℕ) → i < count → words ++ words_in (count - i) bytes ≡ total

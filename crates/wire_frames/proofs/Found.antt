@@ -9,7 +9,7 @@ use Rattle.lazy_msgs.specs.Frame.{two, four, eight}
 use Rattle.lazy_msgs.specs.FrameLimits.{IsWord, IsCounted, IsNode}
 use Rattle.wire_frames.specs.declared.offence.FrameError.{FrameError}
 use Rattle.wire_frames.specs.declared.offence.FrameError.TheVariants.{Short, Field, Over}
-use Rattle.wire_frames.specs.Reading.{Taken, Reader, goes_on, ◌>>=◌, done, byte_at, part_at, number_at, judged, allowed, limited, counted_at, node_at, addressee_at, time_at, one_field, two_fields, three_fields, four_fields}
+use Rattle.wire_frames.specs.Readers.{Taken, Reader, goes_on, ◌>>=◌, done, byte_at, part_at, number_at, judged, allowed, limited, counted_at, node_at, addressee_at, time_at, one_field, two_fields, three_fields, four_fields}
 
 abbrev pub IsBytes : List ℕ → Type 0
 IsBytes bytes = (i : ℕ) → get_or bytes i 0 < 256
@@ -25,16 +25,16 @@ IsBytes-take n bytes are i =
     ]
 
 -- the text is the front of the bytes
-pub record Front (bytes text rest : List ℕ) : Type 0 where
+pub record Parted (bytes text rest : List ℕ) : Type 0 where
   pub parts : bytes ≡ text ++ rest
   pub are : IsBytes rest
 
-pub front_then : {a x b y c : List ℕ} → Front a x b → Front b y c → Front a (x ++ y) c
+pub front_then : {a x b y c : List ℕ} → Parted a x b → Parted b y c → Parted a (x ++ y) c
 front_then {x = x} {y = y} {c = c} p q = record { parts = p.parts ∙ ap (λ (t : List ℕ). x ++ t) q.parts ∙ sym (append_assoc x y c); are = q.are }
 
 -- the front of the bytes is the form of a value that fits
 pub record Found {A : Type 0} (form : A → List ℕ) (Fits : A → Type 0) (bytes : List ℕ) (value : A) (rest : List ℕ) : Type 0 where
-  pub front : Front bytes (form value) rest
+  pub front : Parted bytes (form value) rest
   pub fits : Fits value
 
 -- what the reader takes is found
@@ -228,7 +228,7 @@ behind_done {text = text} {form = form} made is_form fits = record {
 }
 
 -- the text and the front of what stands behind it
-with_text : (text bytes x rest : List ℕ) → Front bytes x rest → Front (text ++ bytes) (text ++ x) rest
+with_text : (text bytes x rest : List ℕ) → Parted bytes x rest → Parted (text ++ bytes) (text ++ x) rest
 with_text text bytes x rest front = record { parts = ap (λ (t : List ℕ). text ++ t) front.parts ∙ sym (append_assoc text x rest); are = front.are }
 
 pub behind_same : {A : Type 0} {text : List ℕ} {read : Reader A} {form_a form : A → List ℕ} {Fits_a Fits : A → Type 0} → Takes read form_a Fits_a

@@ -15,9 +15,9 @@ use Rattle.view_config.specs.declared.edition.Edition.TheVariants.{One, Two}
 use Rattle.view_config.specs.Limits.{record_limit}
 use Rattle.lazy_msgs.specs.Frame.{two, word_form, size_form, bytes_form, optional_form, list_form, id_form, item_form, body_form, cell_form, entry_form, placed_form, nodes_form, config_form, marks_form}
 use Rattle.lazy_msgs.specs.FrameLimits.{BytesFit, OptionalFits, ListFits, ItemFits, BodyFits, CellFits, EntryFits, PlacedFits, NodesFit, ConfigFits, MarksFit, WindowFits, words_of}
-use Rattle.wire_frames.specs.Reading.{Reader, ◌>>=◌, done, byte_at, part_at, allowed, limited, node_at, id_at, size_at, bytes_at, optional_at, item_at, body_at, cell_at, entry_at, placed_at, members_at, list_at, nodes_at, shards_at, config_at, words_in, end_at, are_bits, words_at, marks_at, window_at}
+use Rattle.wire_frames.specs.Readers.{Reader, ◌>>=◌, done, byte_at, part_at, allowed, limited, node_at, id_at, size_at, bytes_at, optional_at, item_at, body_at, cell_at, entry_at, placed_at, members_at, list_at, nodes_at, shards_at, config_at, words_in, end_at, are_bits, words_at, marks_at, window_at}
 use Rattle.wire_frames.proofs.Bits.{both_true, end_at_ends}
-use Rattle.wire_frames.proofs.Found.{IsBytes, IsBytes-take, IsBytes-drop, Front, found_is, Takes, bind_ok, takes_weaker, Behind, behind_none, behind_done, behind_same, behind_one, behind_then, takes_two, takes_three, takes_allowed, takes_limited, takes_byte, takes_part, takes_two_bytes, takes_word, takes_counted, takes_node}
+use Rattle.wire_frames.proofs.Found.{IsBytes, IsBytes-take, IsBytes-drop, Parted, found_is, Takes, bind_ok, takes_weaker, Behind, behind_none, behind_done, behind_same, behind_one, behind_then, takes_two, takes_three, takes_allowed, takes_limited, takes_byte, takes_part, takes_two_bytes, takes_word, takes_counted, takes_node}
 
 pub takes_id : (size : ℕ) → Takes (id_at size) id_form IsIdentity
 unfolding id_at
@@ -176,7 +176,7 @@ takes_words count = record {
       let one = (takes_part (8 * count)).found bytes x.0.0 x.0.1 are x.1 in
       let inside : IsBytes x.0.0 = IsBytes-front x.0.0 x.0.1 (subst (λ (t : List ℕ). IsBytes t) one.front.parts are) in
       let words = words_found count x.0.0 one.fits inside in
-      found_is value rest x.2 (record { front = subst (λ (t : List ℕ). Front bytes t x.0.1) (sym words.0) one.front; fits = words.1 });
+      found_is value rest x.2 (record { front = subst (λ (t : List ℕ). Parted bytes t x.0.1) (sym words.0) one.front; fits = words.1 });
 }
 
 highest_found : (top : ℕ) (words : List ℕ) → (top == 0 || slice_index words 0 % 2 == 1) ≡ true → 1 ≤ top → slice_index words 0 % 2 ≡ 1

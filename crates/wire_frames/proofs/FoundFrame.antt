@@ -13,7 +13,7 @@ use Rattle.lazy_msgs.specs.Frame.{two, eight, version_of, kind_of, fields_form, 
 use Rattle.lazy_msgs.specs.FrameLimits.{IsTwo, MessageFits, Fits}
 use Rattle.wire_frames.specs.declared.offence.FrameError.{FrameError}
 use Rattle.wire_frames.specs.declared.offence.FrameError.TheVariants.{Kind, Field, Memory}
-use Rattle.wire_frames.specs.Reading.{Taken, ◌>>=◌, done, node_at, addressee_at, time_at, fields_at, edition_at, kind_at, last_kind, envelope_at, frame_at, ended, whole_at, four_fields}
+use Rattle.wire_frames.specs.Readers.{Taken, ◌>>=◌, done, node_at, addressee_at, time_at, fields_at, edition_at, kind_at, last_kind, envelope_at, frame_at, ended, whole_at, four_fields}
 use Rattle.wire_frames.proofs.AgainFrame.{reads_frame, frame_alone}
 use Rattle.wire_frames.proofs.Bits.{both_true}
 use Rattle.wire_frames.proofs.Found.{IsBytes, Found, Takes, takes_one, takes_two, takes_three, takes_four, takes_word, takes_counted, takes_node, takes_addressee, takes_time, behind_none, behind_done, behind_one, behind_same, behind_then}

@@ -15,7 +15,7 @@ use Rattle.lazy_msgs.specs.FrameLimits.{words_of}
 use Rattle.wire_frames.specs.declared.offence.FrameError.{FrameError}
 use Rattle.wire_frames.specs.declared.offence.FrameError.TheVariants.{Short, Kind, Field, Over}
 use Rattle.wire_frames.specs.Laws.{CutIsShort, MoreIsTrailing}
-use Rattle.wire_frames.specs.Reading.{Reader, ◌>>=◌, done, byte_at, part_at, number_at, judged, allowed, limited, counted_at, node_at, addressee_at, time_at, id_at, size_at, bytes_at, optional_at, item_at, body_at, cell_at, entry_at, placed_at, members_at, list_at, nodes_at, shards_at, config_at, words_in, are_bits, words_at, marks_at, window_at, one_field, two_fields, three_fields, four_fields, fields_at, edition_at, kind_at, last_kind, envelope_at, frame_at, whole_at}
+use Rattle.wire_frames.specs.Readers.{Reader, ◌>>=◌, done, byte_at, part_at, number_at, judged, allowed, limited, counted_at, node_at, addressee_at, time_at, id_at, size_at, bytes_at, optional_at, item_at, body_at, cell_at, entry_at, placed_at, members_at, list_at, nodes_at, shards_at, config_at, words_in, are_bits, words_at, marks_at, window_at, one_field, two_fields, three_fields, four_fields, fields_at, edition_at, kind_at, last_kind, envelope_at, frame_at, whole_at}
 use Rattle.wire_frames.proofs.AgainFrame.{reads_frame}
 use Rattle.wire_frames.proofs.Found.{bind_ok, judged_ok, taken_is}
 

@@ -3,7 +3,7 @@ use Rattle.std.proofs.Common.{◌≡◌, ◌≢◌, ℕ, suc, ◌-◌, ◌+◌, 
 use Rattle.std.proofs.lemmas.List.{append-nil}
 use Rattle.wire_frames.specs.declared.offence.FrameError.{FrameError}
 use Rattle.wire_frames.specs.declared.offence.FrameError.TheVariants.{Memory}
-use Rattle.wire_frames.specs.Reading.{Taken, Reader, done, goes_on, members_at}
+use Rattle.wire_frames.specs.Readers.{Taken, Reader, done, goes_on, members_at}
 
 -- what was read before, and what is still read
 abbrev pub with_front : {A : Type 0} → List A → Taken (List A) → Taken (List A)
@@ -26,11 +26,4 @@ pub stops : {A : Type 0} (read : Reader A) (front : List A) (count i : ℕ) (byt
 stops read front count i bytes offence total below fails so_far known =
     let k : count - i ≡ suc (count - (i + 1)) = omega arith in
     let one : with_front front (members_at read (count - i) bytes) ≡ Err offence = rw (k, fails known) refl in
-    sym so_far ∙ one
-
-pub all_read : {A : Type 0} (read : Reader A) (front : List A) (count i : ℕ) (bytes : List ℕ) (total : Taken (List A)) → count ≤ i
-    → with_front front (members_at read (count - i) bytes) ≡ total → total ≡ Ok (front, bytes)
-all_read {A = A} read front count i bytes total past so_far =
-    let k : count - i ≡ 0 = omega arith in
-    let one : with_front front (members_at read (count - i) bytes) ≡ Ok (front, bytes) = rw k (ap (λ (xs : List A). done xs bytes) (append-nil front)) in
     sym so_far ∙ one

@@ -8,7 +8,7 @@ use Rattle.lazy_msgs.specs.declared.msg.Envelope.{Envelope}
 use Rattle.lazy_msgs.specs.Frame.{frame, word_form}
 use Rattle.lazy_msgs.specs.FrameLimits.{Fits, MarksFit}
 use Rattle.wire_frames.specs.declared.offence.FrameError.TheVariants.{Short, Trailing}
-use Rattle.wire_frames.specs.Reading.{whole_at}
+use Rattle.wire_frames.specs.Readers.{whole_at}
 
 -- Frames that begin alike are one: no frame goes on behind another, and each is of one envelope in one
 -- edition.

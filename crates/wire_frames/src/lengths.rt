@@ -3,8 +3,14 @@
 ghost use Rattle.std.specs.Prelude.{◌≡◌, ℕ, ◌+◌, ◌*◌, ◌^◌, ◌≤◌, length};
 ghost use Rattle.std.specs.List.{AllByRecursion, flat_map};
 ghost use Rattle.lazy_msgs.specs.Frame.{bytes_form, optional_form, item_form, cell_form, body_form, entry_form, placed_form, nodes_form, config_form, marks_form, list_form, id_form, fields_form, frame};
+ghost use Rattle.lazy_msgs.specs.declared.limits.TheConstants.{BATCH_LIMIT, PENDING_LIMIT};
+ghost use Rattle.rec_id.specs.declared.limits.TheConstants.{READ_LIMIT};
+ghost use Rattle.view_config.specs.declared.limits.TheConstants.{MAX_CLIENTS, MAX_SEQ, MAX_SHARDS};
 ghost use Rattle.lazy_msgs.specs.FrameLimits.{BytesFit, OptionalFits, ItemFits, BodyFits, CellFits, EntryFits, PlacedFits, NodesFit, ConfigFits, MarksFit, WindowFits, MessageFits, Fits};
 
+use crate::sizes::{
+    DATA_MOST, ID_LEN, MARKS_MOST, MEMBER_LEAST, MEMBER_MOST, NODE_LEN, NODES_MOST,
+};
 use lazy_msgs::{Envelope, Msg};
 use rec_id::{
     Body, Bytes, Cell, CellList, Entry, IdList, Item, ItemList, Marks, PlacedList, WindowList,
@@ -15,7 +21,7 @@ use view_config::{Config, Edition, NodeList};
 fn bytes_len(edition: Edition, bytes: &Bytes) -> usize
     requires { BytesFit edition bytes.now }
     ensures exact { result ≡ length (bytes_form edition bytes.now) }
-    ensures most { result ≤ 65540 }
+    ensures most { result ≤ DATA_MOST }
 {
     match edition {
         Edition::One => 2 + bytes.len(),
@@ -27,7 +33,7 @@ fn bytes_len(edition: Edition, bytes: &Bytes) -> usize
 fn optional_len(edition: Edition, bytes: &Option<Bytes>) -> usize
     requires { OptionalFits edition bytes.now }
     ensures exact { result ≡ length (optional_form edition bytes.now) }
-    ensures most { result ≤ 65541 }
+    ensures most { result ≤ DATA_MOST + 1 }
 {
     match bytes {
         Some(bytes) => 1 + bytes_len(edition, bytes),
@@ -39,16 +45,16 @@ fn optional_len(edition: Edition, bytes: &Option<Bytes>) -> usize
 fn item_len(edition: Edition, item: &Item) -> usize
     requires { ItemFits edition item.now }
     ensures exact { result ≡ length (item_form edition item.now) }
-    ensures most { result ≤ 70000 }
+    ensures most { result ≤ MEMBER_MOST }
 {
-    5 + optional_len(edition, &item.bytes)
+    ID_LEN + optional_len(edition, &item.bytes)
 }
 
 #[tactic(auto, using(crate::proofs::FieldLengths::field_lengths))]
 fn body_len(edition: Edition, body: &Body) -> usize
     requires { BodyFits edition body.now }
     ensures exact { result ≡ length (body_form edition body.now) }
-    ensures most { result ≤ 65541 }
+    ensures most { result ≤ DATA_MOST + 1 }
 {
     match body {
         Body::Elsewhere | Body::Noop => 1,
@@ -61,20 +67,20 @@ fn body_len(edition: Edition, body: &Body) -> usize
 fn cell_len(edition: Edition, cell: &Cell) -> usize
     requires { CellFits edition cell.now }
     ensures exact { result ≡ length (cell_form edition cell.now) }
-    ensures most { result ≤ 70000 }
+    ensures most { result ≤ MEMBER_MOST }
 {
-    5 + body_len(edition, &cell.body)
+    ID_LEN + body_len(edition, &cell.body)
 }
 
 #[tactic(auto, using(crate::proofs::FieldLengths::field_lengths))]
 fn entry_len(edition: Edition, entry: &Entry) -> usize
     requires { EntryFits edition entry.now }
     ensures exact { result ≡ length (entry_form edition entry.now) }
-    ensures most { result ≤ 65546 }
+    ensures most { result ≤ MEMBER_LEAST + DATA_MOST }
 {
     match entry {
-        Entry::Kept(_, bytes) => 6 + bytes_len(edition, bytes),
-        Entry::Noop(_) => 6,
+        Entry::Kept(_, bytes) => MEMBER_LEAST + bytes_len(edition, bytes),
+        Entry::Noop(_) => MEMBER_LEAST,
         Entry::Gone(_) => 0,
     }
 }
@@ -83,17 +89,17 @@ fn entry_len(edition: Edition, entry: &Entry) -> usize
 fn placed_len(edition: Edition, placed: &(u32, Entry)) -> usize
     requires { PlacedFits edition placed.now }
     ensures exact { result ≡ length (placed_form edition placed.now) }
-    ensures most { result ≤ 70000 }
+    ensures most { result ≤ MEMBER_MOST }
 {
     4 + entry_len(edition, &placed.1)
 }
 
 #[tactic(auto, using(crate::proofs::FieldLengths::field_lengths))]
 fn items_len(edition: Edition, items: &ItemList) -> usize
-    requires count { length items.now ≤ 4096 }
+    requires count { length items.now ≤ PENDING_LIMIT }
     requires each { AllByRecursion (ItemFits edition) items.now }
     ensures exact { result ≡ length (list_form (item_form edition) items.now) }
-    ensures most { result ≤ 70000 * 4097 }
+    ensures most { result ≤ MEMBER_MOST * (PENDING_LIMIT + 1) }
 {
     let mut sum = 2;
     for item in items.as_slice() {
@@ -104,10 +110,10 @@ fn items_len(edition: Edition, items: &ItemList) -> usize
 
 #[tactic(auto, using(crate::proofs::FieldLengths::field_lengths))]
 fn cells_len(edition: Edition, cells: &CellList) -> usize
-    requires count { length cells.now ≤ 4096 }
+    requires count { length cells.now ≤ PENDING_LIMIT }
     requires each { AllByRecursion (CellFits edition) cells.now }
     ensures exact { result ≡ length (list_form (cell_form edition) cells.now) }
-    ensures most { result ≤ 70000 * 4097 }
+    ensures most { result ≤ MEMBER_MOST * (PENDING_LIMIT + 1) }
 {
     let mut sum = 2;
     for cell in cells.as_slice() {
@@ -118,19 +124,19 @@ fn cells_len(edition: Edition, cells: &CellList) -> usize
 
 #[tactic(auto, using(crate::proofs::FieldLengths::field_lengths))]
 fn ids_len(ids: &IdList) -> usize
-    requires { length ids.now ≤ 64 }
+    requires { length ids.now ≤ BATCH_LIMIT }
     ensures exact { result ≡ length (list_form id_form ids.now) }
-    ensures most { result ≤ 322 }
+    ensures most { result ≤ 2 + ID_LEN * BATCH_LIMIT }
 {
-    2 + 5 * ids.len()
+    2 + ID_LEN * ids.len()
 }
 
 #[tactic(auto, using(crate::proofs::FieldLengths::field_lengths))]
 fn entries_len(edition: Edition, entries: &PlacedList) -> usize
-    requires count { length entries.now ≤ 256 }
+    requires count { length entries.now ≤ READ_LIMIT }
     requires each { AllByRecursion (PlacedFits edition) entries.now }
     ensures exact { result ≡ length (list_form (placed_form edition) entries.now) }
-    ensures most { result ≤ 70000 * 257 }
+    ensures most { result ≤ MEMBER_MOST * (READ_LIMIT + 1) }
 {
     let mut sum = 2;
     for placed in entries.as_slice() {
@@ -141,18 +147,18 @@ fn entries_len(edition: Edition, entries: &PlacedList) -> usize
 
 #[tactic(auto, using(crate::proofs::FieldLengths::field_lengths))]
 fn nodes_len(nodes: &NodeList) -> usize
-    requires { length nodes.now ≤ 7 }
+    requires { length nodes.now ≤ MAX_SEQ }
     ensures exact { result ≡ length (nodes_form nodes.now) }
-    ensures most { result ≤ 15 }
+    ensures most { result ≤ NODES_MOST }
 {
-    1 + 2 * nodes.len()
+    1 + NODE_LEN * nodes.len()
 }
 
 #[tactic(auto, using(crate::proofs::FieldLengths::field_lengths))]
 fn shards_len(config: &Config) -> usize
     requires { ConfigFits config.now }
     ensures exact { result ≡ length (flat_map nodes_form config.now.shards) }
-    ensures most { result ≤ 120 }
+    ensures most { result ≤ NODES_MOST * MAX_SHARDS }
 {
     let mut sum = 0;
     for nodes in config.shards.as_slice() {
@@ -165,7 +171,7 @@ fn shards_len(config: &Config) -> usize
 fn config_len(config: &Config) -> usize
     requires { ConfigFits config.now }
     ensures exact { result ≡ length (config_form config.now) }
-    ensures most { result ≤ 140 }
+    ensures most { result ≤ 5 + NODES_MOST * (MAX_SHARDS + 1) }
 {
     5 + nodes_len(&config.seq) + shards_len(config)
 }
@@ -174,7 +180,7 @@ fn config_len(config: &Config) -> usize
 fn marks_len(edition: Edition, marks: &Marks) -> usize
     requires { MarksFit edition marks.now }
     ensures exact { result ≡ length (marks_form marks.now) }
-    ensures most { result ≤ 516 }
+    ensures most { result ≤ MARKS_MOST }
 {
     4 + 8 * marks.bits.len()
 }
@@ -183,7 +189,7 @@ fn marks_len(edition: Edition, marks: &Marks) -> usize
 fn window_len(edition: Edition, window: &WindowList) -> usize
     requires { WindowFits edition window.now }
     ensures exact { result ≡ length (list_form marks_form window.now) }
-    ensures most { result ≤ 516 * 257 }
+    ensures most { result ≤ MARKS_MOST * (MAX_CLIENTS + 1) }
 {
     let mut sum = 2;
     for marks in window.as_slice() {

@@ -1,7 +1,7 @@
 //! Envelopes as bytes: whether an envelope has a frame in an edition, the frame itself, and the envelope
 //! of a frame.
 //!
-//! The form of a frame stands in words with the messages; `specs/Reading.antt` says how bytes are read
+//! The form of a frame stands in words with the messages; `specs/Readers.antt` says how bytes are read
 //! from left to right, and with which offence they are refused. Nothing here sends or keeps a frame.
 #![tactic(auto)]
 
@@ -10,6 +10,7 @@ mod lengths;
 mod limits;
 mod offence;
 mod reading;
+mod sizes;
 mod writing;
 
 pub use laws::{cut_or_more, marks_by_bit, one_form};

@@ -5,12 +5,15 @@ ghost use Rattle.std.specs.List.{AllByRecursion};
 ghost use Rattle.rec_id.specs.Identity.{IsIdentity};
 ghost use Rattle.lazy_msgs.specs.FrameLimits.{IsWord, IsCounted, IsNode, BytesFit, OptionalFits, ListFits, ItemFits, BodyFits, CellFits, EntryFits, PlacedFits, NodesFit, ConfigFits, EndAt, MarksFit, WindowFits, IsTwo, MessageFits, Fits, words_of};
 
-use lazy_msgs::{Envelope, Msg};
+use lazy_msgs::{BATCH_LIMIT, Envelope, Msg, PENDING_LIMIT, TIME_LIMIT};
 use rec_id::{
-    Body, Bytes, Cell, CellList, Entry, IdList, Item, ItemList, Marks, PlacedList, RecordId,
-    WindowList, Words,
+    Body, Bytes, Cell, CellList, Entry, IdList, Item, ItemList, MAX_CLIENT, Marks, PlacedList,
+    READ_LIMIT, RecordId, WindowList, Words,
 };
-use view_config::{Config, Edition, NodeList, ShardList};
+use view_config::{
+    BOARD, Config, Edition, MAX_CLIENTS, MAX_COPIES, MAX_NODE, MAX_SEQ, MAX_SHARDS, NodeList,
+    ShardList,
+};
 
 /// Four bytes have room for every `u32`.
 fn is_word(n: u32) -> bool
@@ -28,7 +31,7 @@ fn is_counted(n: u32) -> bool
 fn is_node(n: u32) -> bool
     ensures { IsTrue result ↔ IsNode n }
 {
-    n <= 295
+    n <= MAX_NODE
 }
 
 fn is_two(edition: Edition) -> bool
@@ -43,7 +46,7 @@ fn is_two(edition: Edition) -> bool
 fn id_fits(id: RecordId) -> bool
     ensures { IsTrue result ↔ IsIdentity id }
 {
-    id.client() <= 255 && id.number() >= 1
+    id.client() <= MAX_CLIENT && id.number() >= 1
 }
 
 fn bytes_fit(edition: Edition, bytes: &Bytes) -> bool
@@ -99,53 +102,58 @@ fn placed_fits(edition: Edition, placed: &(u32, Entry)) -> bool
     is_word(placed.0) && entry_fits(edition, &placed.1)
 }
 
-fn items_fit(edition: Edition, limit: usize, items: &ItemList) -> bool
+fn items_fit(edition: Edition, limit: u32, items: &ItemList) -> bool
     ensures { IsTrue result ↔ ListFits limit (ItemFits edition) items.now }
 {
-    items.len() <= limit && items.as_slice().iter().all(|item| item_fits(edition, item))
+    items.len() <= limit as usize && items.as_slice().iter().all(|item| item_fits(edition, item))
 }
 
-fn cells_fit(edition: Edition, limit: usize, cells: &CellList) -> bool
+fn cells_fit(edition: Edition, limit: u32, cells: &CellList) -> bool
     ensures { IsTrue result ↔ ListFits limit (CellFits edition) cells.now }
 {
-    cells.len() <= limit && cells.as_slice().iter().all(|cell| cell_fits(edition, cell))
+    cells.len() <= limit as usize && cells.as_slice().iter().all(|cell| cell_fits(edition, cell))
 }
 
 fn ids_fit(ids: &IdList) -> bool
-    ensures { IsTrue result ↔ ListFits 64 IsIdentity ids.now }
+    ensures { IsTrue result ↔ ListFits BATCH_LIMIT IsIdentity ids.now }
 {
-    ids.len() <= 64 && ids.as_slice().iter().all(|id| id_fits(*id))
+    ids.len() <= BATCH_LIMIT as usize && ids.as_slice().iter().all(|id| id_fits(*id))
 }
 
 fn entries_fit(edition: Edition, entries: &PlacedList) -> bool
-    ensures { IsTrue result ↔ ListFits 256 (PlacedFits edition) entries.now }
+    ensures { IsTrue result ↔ ListFits READ_LIMIT (PlacedFits edition) entries.now }
 {
-    entries.len() <= 256
+    entries.len() <= READ_LIMIT as usize
         && entries
             .as_slice()
             .iter()
             .all(|placed| placed_fits(edition, placed))
 }
 
-fn nodes_fit(limit: usize, nodes: &NodeList) -> bool
+fn nodes_fit(limit: u32, nodes: &NodeList) -> bool
     ensures { IsTrue result ↔ NodesFit limit nodes.now }
 {
-    nodes.len() >= 1 && nodes.len() <= limit && nodes.as_slice().iter().all(|node| is_node(*node))
+    nodes.len() >= 1
+        && nodes.len() <= limit as usize
+        && nodes.as_slice().iter().all(|node| is_node(*node))
 }
 
 fn shards_fit(shards: &ShardList) -> bool
-    ensures { IsTrue result ↔ AllByRecursion (NodesFit 4) shards.now }
+    ensures { IsTrue result ↔ AllByRecursion (NodesFit MAX_COPIES) shards.now }
 {
-    shards.as_slice().iter().all(|nodes| nodes_fit(4, nodes))
+    shards
+        .as_slice()
+        .iter()
+        .all(|nodes| nodes_fit(MAX_COPIES, nodes))
 }
 
 fn config_fits(config: &Config) -> bool
     ensures { IsTrue result ↔ ConfigFits config.now }
 {
     is_counted(config.view)
-        && nodes_fit(7, &config.seq)
+        && nodes_fit(MAX_SEQ, &config.seq)
         && config.shards.len() >= 1
-        && config.shards.len() <= 8
+        && config.shards.len() <= MAX_SHARDS as usize
         && shards_fit(&config.shards)
 }
 
@@ -209,7 +217,7 @@ fn each_marks_fit(edition: Edition, window: &WindowList) -> bool
 fn window_fits(edition: Edition, window: &WindowList) -> bool
     ensures { IsTrue result ↔ WindowFits edition window.now }
 {
-    window.len() >= 1 && window.len() <= 256 && each_marks_fit(edition, window)
+    window.len() >= 1 && window.len() <= MAX_CLIENTS as usize && each_marks_fit(edition, window)
 }
 
 fn message_fits(edition: Edition, msg: &Msg) -> bool
@@ -224,11 +232,11 @@ fn message_fits(edition: Edition, msg: &Msg) -> bool
         Msg::DataAck { view, id } => is_counted(*view) && id_fits(*id),
         Msg::Rejected { id, place } => id_fits(*id) && is_word(*place),
         Msg::Place { view, from, items } => {
-            is_counted(*view) && is_word(*from) && items_fit(edition, 64, items)
+            is_counted(*view) && is_word(*from) && items_fit(edition, BATCH_LIMIT, items)
         }
         Msg::Placed { view, upto } => is_counted(*view) && is_word(*upto),
         Msg::Copy { view, from, cells } => {
-            is_counted(*view) && is_word(*from) && cells_fit(edition, 64, cells)
+            is_counted(*view) && is_word(*from) && cells_fit(edition, BATCH_LIMIT, cells)
         }
         Msg::Copied { view, upto } => is_counted(*view) && is_word(*upto),
         Msg::Order { view, from, ids } => is_counted(*view) && is_word(*from) && ids_fit(ids),
@@ -252,9 +260,9 @@ fn message_fits(edition: Edition, msg: &Msg) -> bool
             config,
             from,
             items,
-        } => config_fits(config) && is_word(*from) && items_fit(edition, 4_096, items),
+        } => config_fits(config) && is_word(*from) && items_fit(edition, PENDING_LIMIT, items),
         Msg::FlushCopy { view, from, cells } => {
-            is_counted(*view) && is_word(*from) && cells_fit(edition, 4_096, cells)
+            is_counted(*view) && is_word(*from) && cells_fit(edition, PENDING_LIMIT, cells)
         }
         Msg::Flushed { view } => is_counted(*view),
         Msg::Seal { view } => is_counted(*view),
@@ -267,7 +275,7 @@ fn message_fits(edition: Edition, msg: &Msg) -> bool
             is_counted(*view)
                 && is_word(*bound)
                 && window_fits(edition, window)
-                && items_fit(edition, 4_096, items)
+                && items_fit(edition, PENDING_LIMIT, items)
         }
         Msg::SealedEmpty { view } => is_counted(*view),
         Msg::NewView {
@@ -290,8 +298,5 @@ fn message_fits(edition: Edition, msg: &Msg) -> bool
 pub fn fits(edition: Edition, env: &Envelope) -> bool
     ensures { IsTrue result ↔ Fits edition env.now }
 {
-    is_node(env.from)
-        && env.to <= 296
-        && env.time < 0x100_0000_0000
-        && message_fits(edition, &env.msg)
+    is_node(env.from) && env.to <= BOARD && env.time < TIME_LIMIT && message_fits(edition, &env.msg)
 }

@@ -8,7 +8,7 @@ ghost use Rattle.lazy_msgs.specs.FrameLimits.{Fits};
 ghost use Rattle.lazy_msgs.specs.declared.msg.Envelope.{Envelope};
 ghost use Rattle.view_config.specs.declared.edition.Edition.{Edition};
 ghost use Rattle.wire_frames.specs.declared.offence.FrameError.TheVariants.{Memory};
-ghost use Rattle.wire_frames.specs.Reading.{Gives, edition_at, envelope_at, frame_at, kind_at, last_kind, whole_at};
+ghost use Rattle.wire_frames.specs.Readers.{Gives, edition_at, envelope_at, frame_at, kind_at, last_kind, whole_at};
 
 mod fields;
 mod lists;
@@ -25,7 +25,7 @@ use std::alloc::Global;
 use view_config::Edition;
 
 /// The version's byte.
-#[tactic(auto, unfolding(crate::specs::Reading::edition_at))]
+#[tactic(auto, unfolding(crate::specs::Readers::edition_at))]
 fn edition_of(left: &mut &[u8]) -> Result<Edition, FrameError>
     ensures { Gives result left.new.now (edition_at left.old.now) }
 {
@@ -53,7 +53,7 @@ fn last_kind(edition: Edition) -> u8
     }
 }
 
-#[tactic(auto, unfolding(crate::specs::Reading::kind_at))]
+#[tactic(auto, unfolding(crate::specs::Readers::kind_at))]
 fn kind_of(edition: Edition, left: &mut &[u8]) -> Result<u8, FrameError>
     ensures { Gives result left.new.now (kind_at edition left.old.now) }
 {
@@ -70,7 +70,7 @@ fn kind_of(edition: Edition, left: &mut &[u8]) -> Result<u8, FrameError>
     }
 }
 
-#[tactic(auto, unfolding(crate::specs::Reading::envelope_at))]
+#[tactic(auto, unfolding(crate::specs::Readers::envelope_at))]
 fn envelope_of(
     alloc: Global,
     edition: Edition,
@@ -92,7 +92,7 @@ fn envelope_of(
     })
 }
 
-#[tactic(auto, unfolding(crate::specs::Reading::frame_at))]
+#[tactic(auto, unfolding(crate::specs::Readers::frame_at))]
 fn frame_of(alloc: Global, size: usize, left: &mut &[u8]) -> Result<(Edition, Envelope), FrameError>
     ensures { Gives result left.new.now (frame_at size left.old.now) }
 {
@@ -101,7 +101,7 @@ fn frame_of(alloc: Global, size: usize, left: &mut &[u8]) -> Result<(Edition, En
     Ok((edition, env))
 }
 
-#[tactic(auto, unfolding(crate::specs::Reading::whole_at))]
+#[tactic(auto, unfolding(crate::specs::Readers::whole_at))]
 fn whole_of(alloc: Global, bytes: &[u8]) -> Result<(Edition, Envelope), FrameError>
     ensures found { IfOk result (λ found. whole_at bytes.now ≡ Ok found) }
     ensures offence { IfErr result (λ offence. offence ≢ Memory → whole_at bytes.now ≡ Err offence) }

@@ -1,6 +1,6 @@
 //! Fields of several parts. What owns memory takes exactly what it keeps.
 
-ghost use Rattle.wire_frames.specs.Reading.{Gives, id_at, size_at, bytes_at, optional_at, item_at, body_at, cell_at, entry_at, placed_at};
+ghost use Rattle.wire_frames.specs.Readers.{Gives, id_at, size_at, bytes_at, optional_at, item_at, body_at, cell_at, entry_at, placed_at};
 
 use super::numbers::{byte_of, field, four_of, part_of, two_of};
 use crate::offence::FrameError;
@@ -8,7 +8,7 @@ use rec_id::{Body, Bytes, Cell, Entry, Item, RecordId};
 use std::alloc::Global;
 use view_config::Edition;
 
-#[tactic(auto, unfolding(crate::specs::Reading::id_at, crate::specs::Reading::counted_at))]
+#[tactic(auto, unfolding(crate::specs::Readers::id_at, crate::specs::Readers::counted_at))]
 pub fn id_of(size: usize, left: &mut &[u8]) -> Result<RecordId, FrameError>
     ensures { Gives result left.new.now (id_at size left.old.now) }
 {
@@ -25,25 +25,18 @@ pub fn id_of(size: usize, left: &mut &[u8]) -> Result<RecordId, FrameError>
 fn size_of(edition: Edition, left: &mut &[u8]) -> Result<usize, FrameError>
     ensures { Gives result left.new.now (size_at edition left.old.now) }
 {
-    match edition {
-        Edition::One => {
-            let len = two_of(left)?;
-            if len > 4_096 {
-                return Err(FrameError::Over(4_096));
-            }
-            Ok(usize::from(len))
-        }
-        Edition::Two => {
-            let len = four_of(left)?;
-            if len > 65_536 {
-                return Err(FrameError::Over(65_536));
-            }
-            Ok(len as usize)
-        }
+    let len = match edition {
+        Edition::One => u32::from(two_of(left)?),
+        Edition::Two => four_of(left)?,
+    };
+    let limit = edition.record_limit() as u32;
+    if len > limit {
+        return Err(FrameError::Over(limit));
     }
+    Ok(len as usize)
 }
 
-#[tactic(auto, unfolding(crate::specs::Reading::bytes_at))]
+#[tactic(auto, unfolding(crate::specs::Readers::bytes_at))]
 pub fn bytes_of(alloc: Global, edition: Edition, left: &mut &[u8]) -> Result<Bytes, FrameError>
     ensures { Gives result left.new.now (bytes_at edition left.old.now) }
 {
@@ -52,7 +45,7 @@ pub fn bytes_of(alloc: Global, edition: Edition, left: &mut &[u8]) -> Result<Byt
     Ok(Bytes::copy(alloc, data)?)
 }
 
-#[tactic(auto, unfolding(crate::specs::Reading::optional_at))]
+#[tactic(auto, unfolding(crate::specs::Readers::optional_at))]
 pub fn optional_of(
     alloc: Global,
     edition: Edition,
@@ -72,7 +65,7 @@ pub fn optional_of(
     }
 }
 
-#[tactic(auto, unfolding(crate::specs::Reading::item_at))]
+#[tactic(auto, unfolding(crate::specs::Readers::item_at))]
 pub fn item_of(
     alloc: Global,
     edition: Edition,
@@ -86,7 +79,7 @@ pub fn item_of(
     Ok(Item { id, bytes })
 }
 
-#[tactic(auto, unfolding(crate::specs::Reading::body_at))]
+#[tactic(auto, unfolding(crate::specs::Readers::body_at))]
 fn body_of(
     alloc: Global,
     edition: Edition,
@@ -107,7 +100,7 @@ fn body_of(
     }
 }
 
-#[tactic(auto, unfolding(crate::specs::Reading::cell_at))]
+#[tactic(auto, unfolding(crate::specs::Readers::cell_at))]
 pub fn cell_of(
     alloc: Global,
     edition: Edition,
@@ -121,7 +114,7 @@ pub fn cell_of(
     Ok(Cell { id, body })
 }
 
-#[tactic(auto, unfolding(crate::specs::Reading::entry_at))]
+#[tactic(auto, unfolding(crate::specs::Readers::entry_at))]
 fn entry_of(
     alloc: Global,
     edition: Edition,
@@ -142,7 +135,7 @@ fn entry_of(
     }
 }
 
-#[tactic(auto, unfolding(crate::specs::Reading::placed_at))]
+#[tactic(auto, unfolding(crate::specs::Readers::placed_at))]
 pub fn placed_of(
     alloc: Global,
     edition: Edition,

@@ -3,15 +3,17 @@
 
 ghost use Rattle.std.specs.Prelude.{◌≡◌, ◌*◌, ◌<◌, ◌≤◌, length, nat_le};
 ghost use Rattle.std.specs.Int.{w16};
-ghost use Rattle.wire_frames.specs.Reading.{Gives, allowed, byte_at, limited, number_at, config_at, id_at, item_at, cell_at, placed_at, list_at, members_at, node_at, nodes_at, shards_at};
+ghost use Rattle.wire_frames.specs.Readers.{Gives, allowed, byte_at, limited, number_at, config_at, id_at, item_at, cell_at, placed_at, list_at, members_at, node_at, nodes_at, shards_at};
 
 use super::fields::{cell_of, id_of, item_of, placed_of};
 use super::numbers::{byte_of, counted_of, field, node_of, two_of};
 use crate::offence::FrameError;
+use crate::sizes::{ID_LEN, MEMBER_LEAST, NODE_LEN, NODES_LEAST, PLACED_LEAST};
+use lazy_msgs::BATCH_LIMIT;
 use plain_lists::Sequence;
-use rec_id::{CellList, IdList, ItemList, PlacedList};
+use rec_id::{CellList, IdList, ItemList, PlacedList, READ_LIMIT};
 use std::alloc::Global;
-use view_config::{Config, Edition, NodeList, ShardList};
+use view_config::{Config, Edition, MAX_COPIES, MAX_SEQ, MAX_SHARDS, NodeList, ShardList};
 
 /// For how many members memory is asked for at once, of at least so many bytes each.
 pub fn room(count: usize, least: usize, left: &[u8]) -> usize
@@ -59,7 +61,7 @@ fn items_in(
 ) -> Result<ItemList, FrameError>
     ensures { Gives result left.new.now (members_at (item_at edition size) count left.old.now) }
 {
-    let mut items = Sequence::from_vec(Vec::with_capacity(alloc, room(count, 6, left))?);
+    let mut items = Sequence::from_vec(Vec::with_capacity(alloc, room(count, MEMBER_LEAST, left))?);
     for _ in 0..count {
         let item = item_of(alloc, edition, size, left)?;
         items.push(item)?;
@@ -67,7 +69,7 @@ fn items_in(
     Ok(items)
 }
 
-#[tactic(auto, unfolding(crate::specs::Reading::list_at))]
+#[tactic(auto, unfolding(crate::specs::Readers::list_at))]
 pub fn items_of(
     alloc: Global,
     edition: Edition,
@@ -90,7 +92,7 @@ fn cells_in(
 ) -> Result<CellList, FrameError>
     ensures { Gives result left.new.now (members_at (cell_at edition size) count left.old.now) }
 {
-    let mut cells = Sequence::from_vec(Vec::with_capacity(alloc, room(count, 6, left))?);
+    let mut cells = Sequence::from_vec(Vec::with_capacity(alloc, room(count, MEMBER_LEAST, left))?);
     for _ in 0..count {
         let cell = cell_of(alloc, edition, size, left)?;
         cells.push(cell)?;
@@ -98,7 +100,7 @@ fn cells_in(
     Ok(cells)
 }
 
-#[tactic(auto, unfolding(crate::specs::Reading::list_at))]
+#[tactic(auto, unfolding(crate::specs::Readers::list_at))]
 pub fn cells_of(
     alloc: Global,
     edition: Edition,
@@ -115,7 +117,7 @@ pub fn cells_of(
 fn ids_in(alloc: Global, size: usize, count: usize, left: &mut &[u8]) -> Result<IdList, FrameError>
     ensures { Gives result left.new.now (members_at (id_at size) count left.old.now) }
 {
-    let mut ids = Sequence::from_vec(Vec::with_capacity(alloc, room(count, 5, left))?);
+    let mut ids = Sequence::from_vec(Vec::with_capacity(alloc, room(count, ID_LEN, left))?);
     for _ in 0..count {
         let id = id_of(size, left)?;
         ids.push(id)?;
@@ -123,11 +125,11 @@ fn ids_in(alloc: Global, size: usize, count: usize, left: &mut &[u8]) -> Result<
     Ok(ids)
 }
 
-#[tactic(auto, unfolding(crate::specs::Reading::list_at))]
+#[tactic(auto, unfolding(crate::specs::Readers::list_at))]
 pub fn ids_of(alloc: Global, size: usize, left: &mut &[u8]) -> Result<IdList, FrameError>
-    ensures { Gives result left.new.now (list_at 64 (id_at size) left.old.now) }
+    ensures { Gives result left.new.now (list_at BATCH_LIMIT (id_at size) left.old.now) }
 {
-    let count = count_of(64, left)?;
+    let count = count_of(BATCH_LIMIT, left)?;
     ids_in(alloc, size, count, left)
 }
 
@@ -140,7 +142,10 @@ fn entries_in(
 ) -> Result<PlacedList, FrameError>
     ensures { Gives result left.new.now (members_at (placed_at edition size) count left.old.now) }
 {
-    let mut entries = Sequence::from_vec(Vec::with_capacity(alloc, room(count, 10, left))?);
+    let mut entries = Sequence::from_vec(Vec::with_capacity(
+        alloc,
+        room(count, PLACED_LEAST, left),
+    )?);
     for _ in 0..count {
         let placed = placed_of(alloc, edition, size, left)?;
         entries.push(placed)?;
@@ -148,16 +153,16 @@ fn entries_in(
     Ok(entries)
 }
 
-#[tactic(auto, unfolding(crate::specs::Reading::list_at))]
+#[tactic(auto, unfolding(crate::specs::Readers::list_at))]
 pub fn entries_of(
     alloc: Global,
     edition: Edition,
     size: usize,
     left: &mut &[u8],
 ) -> Result<PlacedList, FrameError>
-    ensures { Gives result left.new.now (list_at 256 (placed_at edition size) left.old.now) }
+    ensures { Gives result left.new.now (list_at READ_LIMIT (placed_at edition size) left.old.now) }
 {
-    let count = count_of(256, left)?;
+    let count = count_of(READ_LIMIT, left)?;
     entries_in(alloc, edition, size, count, left)
 }
 
@@ -169,7 +174,7 @@ fn nodes_in(
 ) -> Result<NodeList, FrameError>
     ensures { Gives result left.new.now (members_at (node_at size) count left.old.now) }
 {
-    let mut nodes = Sequence::from_vec(Vec::with_capacity(alloc, room(count, 2, left))?);
+    let mut nodes = Sequence::from_vec(Vec::with_capacity(alloc, room(count, NODE_LEN, left))?);
     for _ in 0..count {
         let node = node_of(size, left)?;
         nodes.push(node)?;
@@ -177,7 +182,7 @@ fn nodes_in(
     Ok(nodes)
 }
 
-#[tactic(auto, unfolding(crate::specs::Reading::nodes_at))]
+#[tactic(auto, unfolding(crate::specs::Readers::nodes_at))]
 fn nodes_of(
     alloc: Global,
     size: usize,
@@ -196,30 +201,30 @@ fn shards_in(
     count: usize,
     left: &mut &[u8],
 ) -> Result<ShardList, FrameError>
-    ensures { Gives result left.new.now (members_at (nodes_at size 4) count left.old.now) }
+    ensures { Gives result left.new.now (members_at (nodes_at size MAX_COPIES) count left.old.now) }
 {
-    let mut shards = Sequence::from_vec(Vec::with_capacity(alloc, room(count, 3, left))?);
+    let mut shards = Sequence::from_vec(Vec::with_capacity(alloc, room(count, NODES_LEAST, left))?);
     for _ in 0..count {
-        let nodes = nodes_of(alloc, size, 4, left)?;
+        let nodes = nodes_of(alloc, size, MAX_COPIES, left)?;
         shards.push(nodes)?;
     }
     Ok(shards)
 }
 
-#[tactic(auto, unfolding(crate::specs::Reading::shards_at))]
+#[tactic(auto, unfolding(crate::specs::Readers::shards_at))]
 fn shards_of(alloc: Global, size: usize, left: &mut &[u8]) -> Result<ShardList, FrameError>
     ensures { Gives result left.new.now (shards_at size left.old.now) }
 {
-    let count = few_of(size, 8, left)?;
+    let count = few_of(size, MAX_SHARDS, left)?;
     shards_in(alloc, size, count, left)
 }
 
-#[tactic(auto, unfolding(crate::specs::Reading::config_at))]
+#[tactic(auto, unfolding(crate::specs::Readers::config_at))]
 pub fn config_of(alloc: Global, size: usize, left: &mut &[u8]) -> Result<Config, FrameError>
     ensures { Gives result left.new.now (config_at size left.old.now) }
 {
     let view = counted_of(size, left)?;
-    let seq = nodes_of(alloc, size, 7, left)?;
+    let seq = nodes_of(alloc, size, MAX_SEQ, left)?;
     let shards = shards_of(alloc, size, left)?;
     Ok(Config { view, seq, shards })
 }

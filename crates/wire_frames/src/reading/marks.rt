@@ -3,7 +3,7 @@
 ghost use Rattle.std.specs.Prelude.{◌≡◌, ◌*◌, ◌%◌, ◌≤◌, ◌||◌, ◌==◌, nat_le, length, slice_index, IfOk};
 ghost use Rattle.std.specs.Int.{w16, w64, from_le_bytes};
 ghost use Rattle.lazy_msgs.specs.FrameLimits.{words_of};
-ghost use Rattle.wire_frames.specs.Reading.{Gives, allowed, limited, number_at, are_bits, end_at, marks_at, members_at, window_at, words_at, words_in};
+ghost use Rattle.wire_frames.specs.Readers.{Gives, allowed, limited, number_at, are_bits, end_at, marks_at, members_at, window_at, words_at, words_in};
 
 use super::lists::{count_of, room};
 use super::numbers::{field, four_of, part_of};
@@ -12,7 +12,7 @@ use crate::offence::FrameError;
 use plain_lists::Sequence;
 use rec_id::{Marks, WindowList, Words};
 use std::alloc::{AllocError, Global};
-use view_config::Edition;
+use view_config::{Edition, MAX_CLIENTS};
 
 /// The word in these bytes, the lowest byte first.
 fn word_of(bytes: &[u8]) -> u64
@@ -68,7 +68,7 @@ fn are_bits(top: u32, words: &Words) -> bool
     highest_is_marked(top, words) && none_below_one(top, words)
 }
 
-#[tactic(auto, unfolding(crate::specs::Reading::marks_at))]
+#[tactic(auto, unfolding(crate::specs::Readers::marks_at))]
 fn marks_of(
     alloc: Global,
     edition: Edition,
@@ -106,18 +106,18 @@ fn clients_in(
 
 /// How many clients follow.
 fn clients_of(size: usize, left: &mut &[u8]) -> Result<usize, FrameError>
-    ensures { Gives result left.new.now (allowed size (nat_le 1) (limited 256 (number_at w16)) left.old.now) }
+    ensures { Gives result left.new.now (allowed size (nat_le 1) (limited MAX_CLIENTS (number_at w16)) left.old.now) }
 {
     let before = *left;
-    let count = count_of(256, left)?;
+    let count = count_of(MAX_CLIENTS, left)?;
     if count < 1 {
         return Err(field(size, before));
     }
     Ok(count)
 }
 
-#[tactic(auto, unfolding(crate::specs::Reading::window_at))]
-pub fn window_of(
+#[tactic(auto, unfolding(crate::specs::Readers::window_at))]
+pub fn read_window(
     alloc: Global,
     edition: Edition,
     size: usize,

@@ -1,6 +1,6 @@
 //! The fields of a message, by its kind.
 
-ghost use Rattle.wire_frames.specs.Reading.{Gives, fields_at};
+ghost use Rattle.wire_frames.specs.Readers.{Gives, fields_at};
 
 mod appends;
 mod batches;
@@ -22,7 +22,7 @@ use views::{
 };
 
 /// The message of this kind, one that the edition has.
-#[tactic(auto, unfolding(crate::specs::Reading::fields_at))]
+#[tactic(auto, unfolding(crate::specs::Readers::fields_at))]
 pub fn message_of(
     alloc: Global,
     edition: Edition,

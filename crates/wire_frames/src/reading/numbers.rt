@@ -2,9 +2,11 @@
 
 ghost use Rattle.std.specs.Prelude.{◌≡◌, ◌-◌, length};
 ghost use Rattle.std.specs.Int.{w16, w32, w64};
-ghost use Rattle.wire_frames.specs.Reading.{Gives, GivesAs, byte_at, part_at, number_at, counted_at, node_at, addressee_at, time_at};
+ghost use Rattle.wire_frames.specs.Readers.{Gives, GivesAs, byte_at, part_at, number_at, counted_at, node_at, addressee_at, time_at};
 
 use crate::offence::FrameError;
+use lazy_msgs::TIME_LIMIT;
+use view_config::{BOARD, MAX_NODE};
 
 /// The offence of a field that stood before these bytes, of so many in all.
 pub fn field(size: usize, before: &[u8]) -> FrameError
@@ -39,7 +41,7 @@ pub fn part_of<'a>(len: usize, left: &mut &'a [u8]) -> Result<&'a [u8], FrameErr
     Ok(front)
 }
 
-#[tactic(auto, unfolding(crate::specs::Reading::number_at))]
+#[tactic(auto, unfolding(crate::specs::Readers::number_at))]
 pub fn two_of(left: &mut &[u8]) -> Result<u16, FrameError>
     ensures { Gives result left.new.now (number_at w16 left.old.now) }
 {
@@ -52,7 +54,7 @@ pub fn two_of(left: &mut &[u8]) -> Result<u16, FrameError>
     Ok(u16::from_be_bytes([front[0], front[1]]))
 }
 
-#[tactic(auto, unfolding(crate::specs::Reading::number_at))]
+#[tactic(auto, unfolding(crate::specs::Readers::number_at))]
 pub fn four_of(left: &mut &[u8]) -> Result<u32, FrameError>
     ensures { Gives result left.new.now (number_at w32 left.old.now) }
 {
@@ -65,7 +67,7 @@ pub fn four_of(left: &mut &[u8]) -> Result<u32, FrameError>
     Ok(u32::from_be_bytes([front[0], front[1], front[2], front[3]]))
 }
 
-#[tactic(auto, unfolding(crate::specs::Reading::number_at))]
+#[tactic(auto, unfolding(crate::specs::Readers::number_at))]
 pub fn eight_of(left: &mut &[u8]) -> Result<u64, FrameError>
     ensures { Gives result left.new.now (number_at w64 left.old.now) }
 {
@@ -81,7 +83,7 @@ pub fn eight_of(left: &mut &[u8]) -> Result<u64, FrameError>
 }
 
 /// A view or a read.
-#[tactic(auto, unfolding(crate::specs::Reading::counted_at))]
+#[tactic(auto, unfolding(crate::specs::Readers::counted_at))]
 pub fn counted_of(size: usize, left: &mut &[u8]) -> Result<u32, FrameError>
     ensures { Gives result left.new.now (counted_at size left.old.now) }
 {
@@ -93,38 +95,38 @@ pub fn counted_of(size: usize, left: &mut &[u8]) -> Result<u32, FrameError>
     Ok(number)
 }
 
-#[tactic(auto, unfolding(crate::specs::Reading::node_at))]
+#[tactic(auto, unfolding(crate::specs::Readers::node_at))]
 pub fn node_of(size: usize, left: &mut &[u8]) -> Result<u32, FrameError>
     ensures { Gives result left.new.now (node_at size left.old.now) }
 {
     let before = *left;
-    let node = two_of(left)?;
-    if node > 295 {
+    let node = u32::from(two_of(left)?);
+    if node > MAX_NODE {
         return Err(field(size, before));
     }
-    Ok(u32::from(node))
+    Ok(node)
 }
 
 /// A node or the board.
-#[tactic(auto, unfolding(crate::specs::Reading::addressee_at))]
+#[tactic(auto, unfolding(crate::specs::Readers::addressee_at))]
 pub fn addressee_of(size: usize, left: &mut &[u8]) -> Result<u32, FrameError>
     ensures { Gives result left.new.now (addressee_at size left.old.now) }
 {
     let before = *left;
-    let node = two_of(left)?;
-    if node > 296 {
+    let node = u32::from(two_of(left)?);
+    if node > BOARD {
         return Err(field(size, before));
     }
-    Ok(u32::from(node))
+    Ok(node)
 }
 
-#[tactic(auto, unfolding(crate::specs::Reading::time_at))]
+#[tactic(auto, unfolding(crate::specs::Readers::time_at))]
 pub fn time_of(size: usize, left: &mut &[u8]) -> Result<u64, FrameError>
     ensures { Gives result left.new.now (time_at size left.old.now) }
 {
     let before = *left;
     let time = eight_of(left)?;
-    if time >= 0x100_0000_0000 {
+    if time >= TIME_LIMIT {
         return Err(field(size, before));
     }
     Ok(time)

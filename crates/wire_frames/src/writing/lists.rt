@@ -3,6 +3,9 @@
 ghost use Rattle.std.specs.Prelude.{◌≡◌, ◌<◌, ◌≤◌, ◌^◌, ◌++◌, ◌∷◌, length, OnOk};
 ghost use Rattle.std.specs.List.{AllByRecursion, flat_map};
 ghost use Rattle.lazy_msgs.specs.Frame.{list_form, item_form, cell_form, id_form, placed_form, nodes_form, config_form, marks_form, two};
+ghost use Rattle.lazy_msgs.specs.declared.limits.TheConstants.{BATCH_LIMIT, PENDING_LIMIT};
+ghost use Rattle.rec_id.specs.declared.limits.TheConstants.{READ_LIMIT};
+ghost use Rattle.view_config.specs.declared.limits.TheConstants.{MAX_CLIENTS, MAX_SEQ};
 ghost use Rattle.lazy_msgs.specs.FrameLimits.{ItemFits, CellFits, PlacedFits, IsNode, NodesFit, ConfigFits, MarksFit, WindowFits};
 
 use super::fields::{
@@ -37,7 +40,7 @@ fn put_placed(out: &mut Vec<u8>, edition: Edition, placed: &(u32, Entry)) -> Res
 }
 
 pub fn put_items(out: &mut Vec<u8>, edition: Edition, items: &ItemList) -> Result<(), AllocError>
-    requires count { length items.now ≤ 4096 }
+    requires count { length items.now ≤ PENDING_LIMIT }
     requires each { AllByRecursion (ItemFits edition) items.now }
     ensures { OnOk result (out.new.items ≡ out.old.items ++ list_form (item_form edition) items.now) }
 {
@@ -49,7 +52,7 @@ pub fn put_items(out: &mut Vec<u8>, edition: Edition, items: &ItemList) -> Resul
 }
 
 pub fn put_cells(out: &mut Vec<u8>, edition: Edition, cells: &CellList) -> Result<(), AllocError>
-    requires count { length cells.now ≤ 4096 }
+    requires count { length cells.now ≤ PENDING_LIMIT }
     requires each { AllByRecursion (CellFits edition) cells.now }
     ensures { OnOk result (out.new.items ≡ out.old.items ++ list_form (cell_form edition) cells.now) }
 {
@@ -61,7 +64,7 @@ pub fn put_cells(out: &mut Vec<u8>, edition: Edition, cells: &CellList) -> Resul
 }
 
 pub fn put_ids(out: &mut Vec<u8>, ids: &IdList) -> Result<(), AllocError>
-    requires { length ids.now ≤ 64 }
+    requires { length ids.now ≤ BATCH_LIMIT }
     ensures { OnOk result (out.new.items ≡ out.old.items ++ list_form id_form ids.now) }
 {
     put_count(out, ids.len())?;
@@ -76,7 +79,7 @@ pub fn put_entries(
     edition: Edition,
     entries: &PlacedList,
 ) -> Result<(), AllocError>
-    requires count { length entries.now ≤ 256 }
+    requires count { length entries.now ≤ READ_LIMIT }
     requires each { AllByRecursion (PlacedFits edition) entries.now }
     ensures { OnOk result (out.new.items ≡ out.old.items ++ list_form (placed_form edition) entries.now) }
 {
@@ -95,7 +98,7 @@ fn put_node(out: &mut Vec<u8>, node: u32) -> Result<(), AllocError>
 }
 
 fn put_nodes(out: &mut Vec<u8>, nodes: &NodeList) -> Result<(), AllocError>
-    requires count { length nodes.now ≤ 7 }
+    requires count { length nodes.now ≤ MAX_SEQ }
     requires each { AllByRecursion IsNode nodes.now }
     ensures { OnOk result (out.new.items ≡ out.old.items ++ nodes_form nodes.now) }
 {
@@ -137,7 +140,7 @@ fn put_marks(out: &mut Vec<u8>, marks: &Marks) -> Result<(), AllocError>
 }
 
 pub fn put_window(out: &mut Vec<u8>, window: &WindowList) -> Result<(), AllocError>
-    requires { length window.now ≤ 256 }
+    requires { length window.now ≤ MAX_CLIENTS }
     ensures { OnOk result (out.new.items ≡ out.old.items ++ list_form marks_form window.now) }
 {
     put_count(out, window.len())?;

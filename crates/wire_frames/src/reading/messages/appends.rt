@@ -2,7 +2,7 @@
 
 ghost use Rattle.std.specs.Int.{w32};
 ghost use Rattle.lazy_msgs.specs.declared.msg.Msg.TheVariants.{Append, AppendAck, Put, DataAck, Rejected};
-ghost use Rattle.wire_frames.specs.Reading.{Gives, bytes_at, counted_at, id_at, number_at, optional_at, three_fields, two_fields};
+ghost use Rattle.wire_frames.specs.Readers.{Gives, bytes_at, counted_at, id_at, number_at, optional_at, three_fields, two_fields};
 
 use crate::offence::FrameError;
 use crate::reading::fields::{bytes_of, id_of, optional_of};

@@ -2,12 +2,12 @@
 
 ghost use Rattle.std.specs.Int.{w32};
 ghost use Rattle.lazy_msgs.specs.declared.msg.Msg.TheVariants.{Place, Placed, Copy, Copied, Order, Ordered, Stable};
-ghost use Rattle.wire_frames.specs.Reading.{Gives, cell_at, counted_at, id_at, item_at, list_at, number_at, three_fields, two_fields};
+ghost use Rattle.wire_frames.specs.Readers.{Gives, cell_at, counted_at, id_at, item_at, list_at, number_at, three_fields, two_fields};
 
 use crate::offence::FrameError;
 use crate::reading::lists::{cells_of, ids_of, items_of};
 use crate::reading::numbers::{counted_of, four_of};
-use lazy_msgs::Msg;
+use lazy_msgs::{BATCH_LIMIT, Msg};
 use std::alloc::Global;
 use view_config::Edition;
 
@@ -17,11 +17,11 @@ pub fn place_of(
     size: usize,
     left: &mut &[u8],
 ) -> Result<Msg, FrameError>
-    ensures { Gives result left.new.now (three_fields (counted_at size) (number_at w32) (list_at 64 (item_at edition size)) Place left.old.now) }
+    ensures { Gives result left.new.now (three_fields (counted_at size) (number_at w32) (list_at BATCH_LIMIT (item_at edition size)) Place left.old.now) }
 {
     let view = counted_of(size, left)?;
     let from = four_of(left)?;
-    let items = items_of(alloc, edition, size, 64, left)?;
+    let items = items_of(alloc, edition, size, BATCH_LIMIT, left)?;
     Ok(Msg::Place { view, from, items })
 }
 
@@ -39,11 +39,11 @@ pub fn copy_of(
     size: usize,
     left: &mut &[u8],
 ) -> Result<Msg, FrameError>
-    ensures { Gives result left.new.now (three_fields (counted_at size) (number_at w32) (list_at 64 (cell_at edition size)) Copy left.old.now) }
+    ensures { Gives result left.new.now (three_fields (counted_at size) (number_at w32) (list_at BATCH_LIMIT (cell_at edition size)) Copy left.old.now) }
 {
     let view = counted_of(size, left)?;
     let from = four_of(left)?;
-    let cells = cells_of(alloc, edition, size, 64, left)?;
+    let cells = cells_of(alloc, edition, size, BATCH_LIMIT, left)?;
     Ok(Msg::Copy { view, from, cells })
 }
 
@@ -56,7 +56,7 @@ pub fn copied_of(size: usize, left: &mut &[u8]) -> Result<Msg, FrameError>
 }
 
 pub fn order_of(alloc: Global, size: usize, left: &mut &[u8]) -> Result<Msg, FrameError>
-    ensures { Gives result left.new.now (three_fields (counted_at size) (number_at w32) (list_at 64 (id_at size)) Order left.old.now) }
+    ensures { Gives result left.new.now (three_fields (counted_at size) (number_at w32) (list_at BATCH_LIMIT (id_at size)) Order left.old.now) }
 {
     let view = counted_of(size, left)?;
     let from = four_of(left)?;

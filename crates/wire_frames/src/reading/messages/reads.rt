@@ -2,7 +2,8 @@
 
 ghost use Rattle.std.specs.Int.{w32};
 ghost use Rattle.lazy_msgs.specs.declared.msg.Msg.TheVariants.{Probe, ProbeAck, TailReady, Fetch, Part, Trim, TrimAck, TrimmedAt};
-ghost use Rattle.wire_frames.specs.Reading.{Gives, counted_at, four_fields, list_at, number_at, one_field, placed_at, three_fields, two_fields};
+ghost use Rattle.rec_id.specs.declared.limits.TheConstants.{READ_LIMIT};
+ghost use Rattle.wire_frames.specs.Readers.{Gives, counted_at, four_fields, list_at, number_at, one_field, placed_at, three_fields, two_fields};
 
 use crate::offence::FrameError;
 use crate::reading::lists::entries_of;
@@ -51,7 +52,7 @@ pub fn part_of(
     size: usize,
     left: &mut &[u8],
 ) -> Result<Msg, FrameError>
-    ensures { Gives result left.new.now (four_fields (counted_at size) (number_at w32) (number_at w32) (list_at 256 (placed_at edition size)) Part left.old.now) }
+    ensures { Gives result left.new.now (four_fields (counted_at size) (number_at w32) (number_at w32) (list_at READ_LIMIT (placed_at edition size)) Part left.old.now) }
 {
     let read = counted_of(size, left)?;
     let from = four_of(left)?;

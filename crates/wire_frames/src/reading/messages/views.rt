@@ -2,13 +2,13 @@
 
 ghost use Rattle.std.specs.Int.{w32};
 ghost use Rattle.lazy_msgs.specs.declared.msg.Msg.TheVariants.{Flush, FlushCopy, Flushed, Seal, Sealed, SealedEmpty, NewView, Started, ViewIs, Claim};
-ghost use Rattle.wire_frames.specs.Reading.{Gives, cell_at, config_at, counted_at, four_fields, item_at, list_at, number_at, one_field, three_fields, window_at};
+ghost use Rattle.wire_frames.specs.Readers.{Gives, cell_at, config_at, counted_at, four_fields, item_at, list_at, number_at, one_field, three_fields, window_at};
 
 use crate::offence::FrameError;
 use crate::reading::lists::{cells_of, config_of, items_of};
-use crate::reading::marks::window_of;
+use crate::reading::marks::read_window;
 use crate::reading::numbers::{counted_of, four_of};
-use lazy_msgs::Msg;
+use lazy_msgs::{Msg, PENDING_LIMIT};
 use std::alloc::Global;
 use view_config::Edition;
 
@@ -18,11 +18,11 @@ pub fn flush_of(
     size: usize,
     left: &mut &[u8],
 ) -> Result<Msg, FrameError>
-    ensures { Gives result left.new.now (three_fields (config_at size) (number_at w32) (list_at 4096 (item_at edition size)) Flush left.old.now) }
+    ensures { Gives result left.new.now (three_fields (config_at size) (number_at w32) (list_at PENDING_LIMIT (item_at edition size)) Flush left.old.now) }
 {
     let config = config_of(alloc, size, left)?;
     let from = four_of(left)?;
-    let items = items_of(alloc, edition, size, 4_096, left)?;
+    let items = items_of(alloc, edition, size, PENDING_LIMIT, left)?;
     Ok(Msg::Flush {
         config,
         from,
@@ -36,11 +36,11 @@ pub fn flush_copy_of(
     size: usize,
     left: &mut &[u8],
 ) -> Result<Msg, FrameError>
-    ensures { Gives result left.new.now (three_fields (counted_at size) (number_at w32) (list_at 4096 (cell_at edition size)) FlushCopy left.old.now) }
+    ensures { Gives result left.new.now (three_fields (counted_at size) (number_at w32) (list_at PENDING_LIMIT (cell_at edition size)) FlushCopy left.old.now) }
 {
     let view = counted_of(size, left)?;
     let from = four_of(left)?;
-    let cells = cells_of(alloc, edition, size, 4_096, left)?;
+    let cells = cells_of(alloc, edition, size, PENDING_LIMIT, left)?;
     Ok(Msg::FlushCopy { view, from, cells })
 }
 
@@ -64,12 +64,12 @@ pub fn sealed_of(
     size: usize,
     left: &mut &[u8],
 ) -> Result<Msg, FrameError>
-    ensures { Gives result left.new.now (four_fields (counted_at size) (number_at w32) (window_at edition size) (list_at 4096 (item_at edition size)) Sealed left.old.now) }
+    ensures { Gives result left.new.now (four_fields (counted_at size) (number_at w32) (window_at edition size) (list_at PENDING_LIMIT (item_at edition size)) Sealed left.old.now) }
 {
     let view = counted_of(size, left)?;
     let bound = four_of(left)?;
-    let window = window_of(alloc, edition, size, left)?;
-    let items = items_of(alloc, edition, size, 4_096, left)?;
+    let window = read_window(alloc, edition, size, left)?;
+    let items = items_of(alloc, edition, size, PENDING_LIMIT, left)?;
     Ok(Msg::Sealed {
         view,
         bound,
@@ -95,7 +95,7 @@ pub fn new_view_of(
 {
     let config = config_of(alloc, size, left)?;
     let base = four_of(left)?;
-    let window = window_of(alloc, edition, size, left)?;
+    let window = read_window(alloc, edition, size, left)?;
     Ok(Msg::NewView {
         config,
         base,

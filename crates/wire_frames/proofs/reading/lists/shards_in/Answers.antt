@@ -1,5 +1,5 @@
 use Rattle.std.proofs.lemmas.Result.{err_from_is_err_and}
-use Rattle.wire_frames.specs.Reading.{members_at, nodes_at}
+use Rattle.wire_frames.specs.Readers.{members_at, nodes_at}
 use Rattle.wire_frames.proofs.Members.{one_more, stops}
 use Rattle.wire_frames.proofs.reading.lists.shards_in.Goals as goal
 

@@ -1,5 +1,5 @@
 use Rattle.std.proofs.Common.{◌≡◌, ◌-◌}
-use Rattle.wire_frames.specs.Reading.{members_at, nodes_at}
+use Rattle.wire_frames.specs.Readers.{members_at, nodes_at}
 use Rattle.wire_frames.proofs.Members.{with_front}
 use Rattle.wire_frames.proofs.reading.lists.shards_in.Given as goal
 

@@ -1,5 +1,5 @@
 use Rattle.std.proofs.Common.{arith}
-use Rattle.wire_frames.specs.Reading.{words_in}
+use Rattle.wire_frames.specs.Readers.{words_in}
 use Rattle.wire_frames.proofs.Bits.{one_more_word}
 use Rattle.wire_frames.proofs.reading.marks.words_in.Goals as goal
 

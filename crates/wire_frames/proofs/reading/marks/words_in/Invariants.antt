@@ -1,5 +1,5 @@
 use Rattle.std.proofs.Common.{◌≡◌, ◌-◌, ◌*◌, ◌++◌, length}
-use Rattle.wire_frames.specs.Reading.{words_in}
+use Rattle.wire_frames.specs.Readers.{words_in}
 use Rattle.wire_frames.proofs.reading.marks.words_in.Given as goal
 
 abbrev pub invariant-loop : goal.invariant-loop

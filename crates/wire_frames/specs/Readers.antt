@@ -20,6 +20,10 @@ use Rattle.lazy_msgs.specs.declared.msg.Envelope.{Envelope}
 use Rattle.lazy_msgs.specs.declared.msg.Msg.{Msg}
 use Rattle.lazy_msgs.specs.declared.msg.Msg.TheVariants.{Append, AppendAck, Put, DataAck, Rejected, Place, Placed, Copy, Copied, Order, Ordered, Stable, Probe, ProbeAck, TailReady, Fetch, Part, Flush, FlushCopy, Flushed, Seal, Sealed, SealedEmpty, NewView, Started, AskView, ViewIs, Claim, Trim, TrimAck, TrimmedAt}
 use Rattle.lazy_msgs.specs.FrameLimits.{words_of}
+use Rattle.lazy_msgs.specs.declared.limits.TheConstants.{BATCH_LIMIT, PENDING_LIMIT, TIME_LIMIT}
+use Rattle.rec_id.specs.declared.limits.TheConstants.{READ_LIMIT}
+use Rattle.view_config.specs.declared.limits.TheConstants.{MAX_CLIENTS, MAX_COPIES, MAX_SEQ, MAX_SHARDS, RECORD_LIMIT_ONE, RECORD_LIMIT_TWO}
+use Rattle.view_config.specs.declared.nodes.TheConstants.{BOARD, MAX_NODE}
 use Rattle.wire_frames.specs.declared.offence.FrameError.{FrameError}
 use Rattle.wire_frames.specs.declared.offence.FrameError.TheVariants.{Short, Kind, Field, Over, Trailing, Memory}
 
@@ -70,13 +74,13 @@ unfoldable pub counted_at : ℕ → Reader ℕ
 counted_at size = allowed size (nat_le 1) (number_at w32)
 
 unfoldable pub node_at : ℕ → Reader ℕ
-node_at size = allowed size (λ node. nat_le node 295) (number_at w16)
+node_at size = allowed size (λ node. nat_le node MAX_NODE) (number_at w16)
 
 unfoldable pub addressee_at : ℕ → Reader ℕ
-addressee_at size = allowed size (λ node. nat_le node 296) (number_at w16)
+addressee_at size = allowed size (λ node. nat_le node BOARD) (number_at w16)
 
 unfoldable pub time_at : ℕ → Reader ℕ
-time_at size = allowed size (λ time. nat_lt time (2 ^ 40)) (number_at w64)
+time_at size = allowed size (λ time. nat_lt time TIME_LIMIT) (number_at w64)
 
 -- ---- records
 
@@ -87,8 +91,8 @@ id_at size = do
   done (record { client = client; number = number })
 
 abbrev pub size_at : Edition → Reader ℕ
-size_at One = limited 4096 (number_at w16)
-size_at Two = limited 65536 (number_at w32)
+size_at One = limited RECORD_LIMIT_ONE (number_at w16)
+size_at Two = limited RECORD_LIMIT_TWO (number_at w32)
 
 unfoldable pub bytes_at : Edition → Reader (List ℕ)
 bytes_at edition = size_at edition >>= part_at
@@ -144,12 +148,12 @@ unfoldable pub nodes_at : ℕ → ℕ → Reader (List ℕ)
 nodes_at size limit = allowed size (nat_le 1) (limited limit byte_at) >>= members_at (node_at size)
 
 unfoldable pub shards_at : ℕ → Reader (List (List ℕ))
-shards_at size = allowed size (nat_le 1) (limited 8 byte_at) >>= members_at (nodes_at size 4)
+shards_at size = allowed size (nat_le 1) (limited MAX_SHARDS byte_at) >>= members_at (nodes_at size MAX_COPIES)
 
 unfoldable pub config_at : ℕ → Reader Config
 config_at size = do
   view ← counted_at size
-  seq ← nodes_at size 7
+  seq ← nodes_at size MAX_SEQ
   shards ← shards_at size
   done (record { view = view; seq = seq; shards = shards })
 
@@ -177,7 +181,7 @@ marks_at edition size = do
   done (record { top = top; bits = bits })
 
 unfoldable pub window_at : Edition → ℕ → Reader (List Marks)
-window_at edition size = allowed size (nat_le 1) (limited 256 (number_at w16)) >>= members_at (marks_at edition size)
+window_at edition size = allowed size (nat_le 1) (limited MAX_CLIENTS (number_at w16)) >>= members_at (marks_at edition size)
 
 -- ---- messages
 
@@ -201,23 +205,23 @@ fields_at edition size kind =
     else (if kind == 3 then two_fields (id_at size) (bytes_at edition) Put
     else (if kind == 4 then two_fields (counted_at size) (id_at size) DataAck
     else (if kind == 5 then two_fields (id_at size) (number_at w32) Rejected
-    else (if kind == 6 then three_fields (counted_at size) (number_at w32) (list_at 64 (item_at edition size)) Place
+    else (if kind == 6 then three_fields (counted_at size) (number_at w32) (list_at BATCH_LIMIT (item_at edition size)) Place
     else (if kind == 7 then two_fields (counted_at size) (number_at w32) Placed
-    else (if kind == 8 then three_fields (counted_at size) (number_at w32) (list_at 64 (cell_at edition size)) Copy
+    else (if kind == 8 then three_fields (counted_at size) (number_at w32) (list_at BATCH_LIMIT (cell_at edition size)) Copy
     else (if kind == 9 then two_fields (counted_at size) (number_at w32) Copied
-    else (if kind == 10 then three_fields (counted_at size) (number_at w32) (list_at 64 (id_at size)) Order
+    else (if kind == 10 then three_fields (counted_at size) (number_at w32) (list_at BATCH_LIMIT (id_at size)) Order
     else (if kind == 11 then two_fields (counted_at size) (number_at w32) Ordered
     else (if kind == 12 then two_fields (counted_at size) (number_at w32) Stable
     else (if kind == 13 then two_fields (counted_at size) (counted_at size) Probe
     else (if kind == 14 then two_fields (counted_at size) (counted_at size) ProbeAck
     else (if kind == 15 then three_fields (counted_at size) (counted_at size) (number_at w32) TailReady
     else (if kind == 16 then three_fields (counted_at size) (number_at w32) (number_at w32) Fetch
-    else (if kind == 17 then four_fields (counted_at size) (number_at w32) (number_at w32) (list_at 256 (placed_at edition size)) Part
-    else (if kind == 18 then three_fields (config_at size) (number_at w32) (list_at 4096 (item_at edition size)) Flush
-    else (if kind == 19 then three_fields (counted_at size) (number_at w32) (list_at 4096 (cell_at edition size)) FlushCopy
+    else (if kind == 17 then four_fields (counted_at size) (number_at w32) (number_at w32) (list_at READ_LIMIT (placed_at edition size)) Part
+    else (if kind == 18 then three_fields (config_at size) (number_at w32) (list_at PENDING_LIMIT (item_at edition size)) Flush
+    else (if kind == 19 then three_fields (counted_at size) (number_at w32) (list_at PENDING_LIMIT (cell_at edition size)) FlushCopy
     else (if kind == 20 then one_field (counted_at size) Flushed
     else (if kind == 21 then one_field (counted_at size) Seal
-    else (if kind == 22 then four_fields (counted_at size) (number_at w32) (window_at edition size) (list_at 4096 (item_at edition size)) Sealed
+    else (if kind == 22 then four_fields (counted_at size) (number_at w32) (window_at edition size) (list_at PENDING_LIMIT (item_at edition size)) Sealed
     else (if kind == 23 then one_field (counted_at size) SealedEmpty
     else (if kind == 24 then three_fields (config_at size) (number_at w32) (window_at edition size) NewView
     else (if kind == 25 then one_field (counted_at size) Started
