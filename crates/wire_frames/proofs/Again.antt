@@ -8,6 +8,8 @@ use Rattle.std.proofs.lemmas.Nat.{from_be_bytes-to_be_bytes_2, from_be_bytes-to_
 use Rattle.lazy_msgs.specs.Frame.{two, four, eight}
 use Rattle.lazy_msgs.specs.FrameLimits.{IsCounted, IsNode}
 use Rattle.wire_frames.specs.Readers.{Reader, ◌>>=◌, done, byte_at, part_at, number_at, allowed, limited, counted_at, node_at, addressee_at, time_at, one_field, two_fields, three_fields, four_fields}
+use Rattle.lazy_msgs.specs.declared.limits.TheConstants.{TIME_LIMIT}
+use Rattle.view_config.specs.declared.nodes.TheConstants.{BOARD, MAX_NODE}
 
 -- the reader takes these bytes as this value, whatever follows
 pub record Reads {A : Type 0} (read : Reader A) (form : List ℕ) (value : A) : Type 0 where
@@ -68,17 +70,17 @@ reads_counted size n fits =
 pub reads_node : (size n : ℕ) → IsNode n → Reads (node_at size) (two n) n
 unfolding node_at
 reads_node size n most =
-    reads_allowed size (λ node. nat_le node 295) (number_at w16) (two n) n (le-leb n 295 most) (reads_two n (omega arith))
+    reads_allowed size (λ node. nat_le node MAX_NODE) (number_at w16) (two n) n (le-leb n MAX_NODE most) (reads_two n (omega arith))
 
-pub reads_addressee : (size n : ℕ) → n ≤ 296 → Reads (addressee_at size) (two n) n
+pub reads_addressee : (size n : ℕ) → n ≤ BOARD → Reads (addressee_at size) (two n) n
 unfolding addressee_at
 reads_addressee size n most =
-    reads_allowed size (λ node. nat_le node 296) (number_at w16) (two n) n (le-leb n 296 most) (reads_two n (omega arith))
+    reads_allowed size (λ node. nat_le node BOARD) (number_at w16) (two n) n (le-leb n BOARD most) (reads_two n (omega arith))
 
-pub reads_time : (size n : ℕ) → n < 2 ^ 40 → Reads (time_at size) (eight n) n
+pub reads_time : (size n : ℕ) → n < TIME_LIMIT → Reads (time_at size) (eight n) n
 unfolding time_at
 reads_time size n below =
-    reads_allowed size (λ time. nat_lt time (2 ^ 40)) (number_at w64) (eight n) n (lt-ltb n (2 ^ 40) below) (reads_eight n (omega arith))
+    reads_allowed size (λ time. nat_lt time TIME_LIMIT) (number_at w64) (eight n) n (lt-ltb n TIME_LIMIT below) (reads_eight n (omega arith))
 
 pub reads_part : (bytes : List ℕ) → Reads (part_at (length bytes)) bytes bytes
 reads_part bytes = record {

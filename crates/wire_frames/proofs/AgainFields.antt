@@ -24,6 +24,8 @@ use Rattle.lazy_msgs.specs.FrameLimits.{BytesFit, OptionalFits, ListFits, ItemFi
 use Rattle.wire_frames.specs.Readers.{Reader, ◌>>=◌, done, byte_at, part_at, number_at, allowed, limited, node_at, id_at, size_at, bytes_at, optional_at, item_at, body_at, cell_at, entry_at, placed_at, members_at, list_at, nodes_at, shards_at, config_at, words_in, end_at, are_bits, words_at, marks_at, window_at}
 use Rattle.wire_frames.proofs.FieldLengths.{length-words, length-word_form}
 use Rattle.wire_frames.proofs.Again.{Reads, reads_then, reads_allowed, reads_limited, reads_two, reads_four, reads_byte, reads_counted, reads_node, reads_part, reads_one, reads_two_fields, reads_three_fields}
+use Rattle.lazy_msgs.specs.declared.limits.TheConstants.{PENDING_LIMIT}
+use Rattle.view_config.specs.declared.limits.TheConstants.{MAX_CLIENTS, MAX_COPIES, MAX_SEQ, MAX_SHARDS, RECORD_LIMIT_ONE, RECORD_LIMIT_TWO}
 
 pub reads_id : (size : ℕ) (id : Identity) → IsIdentity id → Reads (id_at size) (id_form id) id
 unfolding id_at
@@ -33,8 +35,8 @@ reads_id size id fits =
 -- ---- bytes
 
 reads_size : (edition : Edition) (n : ℕ) → n ≤ record_limit edition → Reads (size_at edition) (size_form edition n) n
-reads_size One n most = reads_limited 4096 (number_at w16) (two n) n most (reads_two n (omega arith))
-reads_size Two n most = reads_limited 65536 (number_at w32) (four n) n most (reads_four n (omega arith))
+reads_size One n most = reads_limited RECORD_LIMIT_ONE (number_at w16) (two n) n most (reads_two n (omega arith))
+reads_size Two n most = reads_limited RECORD_LIMIT_TWO (number_at w32) (four n) n most (reads_four n (omega arith))
 
 pub reads_bytes : (edition : Edition) (bytes : List ℕ) → BytesFit edition bytes → Reads (bytes_at edition) (bytes_form edition bytes) bytes
 unfolding bytes_at
@@ -100,7 +102,7 @@ reads_members read form Member each [] fits = record { again = λ rest. refl }
 reads_members read form Member each (x ∷ xs) fits =
     reads_two_fields (λ first others. first ∷ others) (each x fits.0) (reads_members read form Member each xs fits.1)
 
-pub reads_list : {A : Type 0} (limit : ℕ) (read : Reader A) (form : A → List ℕ) (Member : A → Type 0) → limit ≤ 4096 → ((x : A) → Member x → Reads read (form x) x) → (xs : List A) → ListFits limit Member xs → Reads (list_at limit read) (list_form form xs) xs
+pub reads_list : {A : Type 0} (limit : ℕ) (read : Reader A) (form : A → List ℕ) (Member : A → Type 0) → limit ≤ PENDING_LIMIT → ((x : A) → Member x → Reads read (form x) x) → (xs : List A) → ListFits limit Member xs → Reads (list_at limit read) (list_form form xs) xs
 unfolding list_at
 reads_list limit read form Member small each xs fits =
     let most = fits.count in
@@ -122,13 +124,13 @@ reads_nodes size limit nodes fits =
 reads_shards : (size : ℕ) (config : Config) → ConfigFits config → Reads (shards_at size) (length config.shards ∷ flat_map nodes_form config.shards) config.shards
 unfolding shards_at
 reads_shards size config fits =
-    reads_then (allowed size (nat_le 1) (limited 8 byte_at)) (members_at (nodes_at size 4)) (length config.shards ∷ []) (flat_map nodes_form config.shards) (length config.shards) config.shards
-    (reads_few size 8 (length config.shards) fits.shards_least fits.shards_most) (reads_members (nodes_at size 4) nodes_form (NodesFit 4) (reads_nodes size 4) config.shards fits.shards)
+    reads_then (allowed size (nat_le 1) (limited MAX_SHARDS byte_at)) (members_at (nodes_at size MAX_COPIES)) (length config.shards ∷ []) (flat_map nodes_form config.shards) (length config.shards) config.shards
+    (reads_few size MAX_SHARDS (length config.shards) fits.shards_least fits.shards_most) (reads_members (nodes_at size MAX_COPIES) nodes_form (NodesFit MAX_COPIES) (reads_nodes size MAX_COPIES) config.shards fits.shards)
 
 pub reads_config : (size : ℕ) (config : Config) → ConfigFits config → Reads (config_at size) (config_form config) config
 unfolding config_at
 reads_config size config fits =
-    reads_three_fields (λ view seq shards. record { view = view; seq = seq; shards = shards }) (reads_counted size config.view fits.view) (reads_nodes size 7 config.seq fits.seq) (reads_shards size config fits)
+    reads_three_fields (λ view seq shards. record { view = view; seq = seq; shards = shards }) (reads_counted size config.view fits.view) (reads_nodes size MAX_SEQ config.seq fits.seq) (reads_shards size config fits)
 
 -- ---- marks
 
@@ -184,7 +186,7 @@ pub reads_window : (edition : Edition) (size : ℕ) (window : List Marks) → Wi
 unfolding window_at
 reads_window edition size window fits =
     let most = fits.most in
-    reads_then (allowed size (nat_le 1) (limited 256 (number_at w16))) (members_at (marks_at edition size)) (two (length window)) (flat_map marks_form window) (length window) window
-    (reads_allowed size (nat_le 1) (limited 256 (number_at w16)) (two (length window)) (length window) (le-leb 1 (length window) fits.least)
-    (reads_limited 256 (number_at w16) (two (length window)) (length window) fits.most (reads_two (length window) (omega arith))))
+    reads_then (allowed size (nat_le 1) (limited MAX_CLIENTS (number_at w16))) (members_at (marks_at edition size)) (two (length window)) (flat_map marks_form window) (length window) window
+    (reads_allowed size (nat_le 1) (limited MAX_CLIENTS (number_at w16)) (two (length window)) (length window) (le-leb 1 (length window) fits.least)
+    (reads_limited MAX_CLIENTS (number_at w16) (two (length window)) (length window) fits.most (reads_two (length window) (omega arith))))
     (reads_members (marks_at edition size) marks_form (MarksFit edition) (reads_marks edition size) window fits.each)

@@ -16,11 +16,13 @@ use Rattle.wire_frames.specs.Laws.{OneForm}
 use Rattle.wire_frames.specs.Readers.{Taken, ◌>>=◌, done, node_at, addressee_at, time_at, id_at, item_at, cell_at, placed_at, list_at, fields_at, edition_at, kind_at, last_kind, envelope_at, frame_at, four_fields}
 use Rattle.wire_frames.proofs.Again.{Reads, reads_then, reads_done, reads_four, reads_counted, reads_node, reads_addressee, reads_time, reads_one, reads_two_fields, reads_three_fields, reads_four_fields}
 use Rattle.wire_frames.proofs.AgainFields.{reads_id, reads_bytes, reads_optional, reads_item, reads_cell, reads_placed, reads_list, reads_config, reads_window}
+use Rattle.lazy_msgs.specs.declared.limits.TheConstants.{BATCH_LIMIT, PENDING_LIMIT}
+use Rattle.rec_id.specs.declared.limits.TheConstants.{READ_LIMIT}
 
-reads_items : (edition : Edition) (size limit : ℕ) (items : List Item) → limit ≤ 4096 → ListFits limit (ItemFits edition) items → Reads (list_at limit (item_at edition size)) (list_form (item_form edition) items) items
+reads_items : (edition : Edition) (size limit : ℕ) (items : List Item) → limit ≤ PENDING_LIMIT → ListFits limit (ItemFits edition) items → Reads (list_at limit (item_at edition size)) (list_form (item_form edition) items) items
 reads_items edition size limit items small fits = reads_list limit (item_at edition size) (item_form edition) (ItemFits edition) small (reads_item edition size) items fits
 
-reads_cells : (edition : Edition) (size limit : ℕ) (cells : List Cell) → limit ≤ 4096 → ListFits limit (CellFits edition) cells → Reads (list_at limit (cell_at edition size)) (list_form (cell_form edition) cells) cells
+reads_cells : (edition : Edition) (size limit : ℕ) (cells : List Cell) → limit ≤ PENDING_LIMIT → ListFits limit (CellFits edition) cells → Reads (list_at limit (cell_at edition size)) (list_form (cell_form edition) cells) cells
 reads_cells edition size limit cells small fits = reads_list limit (cell_at edition size) (cell_form edition) (CellFits edition) small (reads_cell edition size) cells fits
 
 reads_fields : (edition : Edition) (size : ℕ) (msg : Msg) → MessageFits edition msg → Reads (fields_at edition size (kind_of msg)) (fields_form edition msg) msg
@@ -30,23 +32,23 @@ reads_fields edition size (AppendAck view id) fits = reads_two_fields (λ view i
 reads_fields edition size (Put id bytes) fits = reads_two_fields (λ id bytes. Put id bytes) (reads_id size id fits.0) (reads_bytes edition bytes fits.1)
 reads_fields edition size (DataAck view id) fits = reads_two_fields (λ view id. DataAck view id) (reads_counted size view fits.0) (reads_id size id fits.1)
 reads_fields edition size (Rejected id place) fits = reads_two_fields (λ id place. Rejected id place) (reads_id size id fits.0) (reads_four place fits.1)
-reads_fields edition size (Place view from items) fits = reads_three_fields (λ view from items. Place view from items) (reads_counted size view fits.0) (reads_four from fits.1) (reads_items edition size 64 items (lit≤ tt) fits.2)
+reads_fields edition size (Place view from items) fits = reads_three_fields (λ view from items. Place view from items) (reads_counted size view fits.0) (reads_four from fits.1) (reads_items edition size BATCH_LIMIT items (lit≤ tt) fits.2)
 reads_fields edition size (Placed view upto) fits = reads_two_fields (λ view upto. Placed view upto) (reads_counted size view fits.0) (reads_four upto fits.1)
-reads_fields edition size (Copy view from cells) fits = reads_three_fields (λ view from cells. Copy view from cells) (reads_counted size view fits.0) (reads_four from fits.1) (reads_cells edition size 64 cells (lit≤ tt) fits.2)
+reads_fields edition size (Copy view from cells) fits = reads_three_fields (λ view from cells. Copy view from cells) (reads_counted size view fits.0) (reads_four from fits.1) (reads_cells edition size BATCH_LIMIT cells (lit≤ tt) fits.2)
 reads_fields edition size (Copied view upto) fits = reads_two_fields (λ view upto. Copied view upto) (reads_counted size view fits.0) (reads_four upto fits.1)
-reads_fields edition size (Order view from ids) fits = reads_three_fields (λ view from ids. Order view from ids) (reads_counted size view fits.0) (reads_four from fits.1) (reads_list 64 (id_at size) id_form IsIdentity (lit≤ tt) (reads_id size) ids fits.2)
+reads_fields edition size (Order view from ids) fits = reads_three_fields (λ view from ids. Order view from ids) (reads_counted size view fits.0) (reads_four from fits.1) (reads_list BATCH_LIMIT (id_at size) id_form IsIdentity (lit≤ tt) (reads_id size) ids fits.2)
 reads_fields edition size (Ordered view upto) fits = reads_two_fields (λ view upto. Ordered view upto) (reads_counted size view fits.0) (reads_four upto fits.1)
 reads_fields edition size (Stable view upto) fits = reads_two_fields (λ view upto. Stable view upto) (reads_counted size view fits.0) (reads_four upto fits.1)
 reads_fields edition size (Probe view read) fits = reads_two_fields (λ view read. Probe view read) (reads_counted size view fits.0) (reads_counted size read fits.1)
 reads_fields edition size (ProbeAck view read) fits = reads_two_fields (λ view read. ProbeAck view read) (reads_counted size view fits.0) (reads_counted size read fits.1)
 reads_fields edition size (TailReady view read tail) fits = reads_three_fields (λ view read tail. TailReady view read tail) (reads_counted size view fits.0) (reads_counted size read fits.1) (reads_four tail fits.2)
 reads_fields edition size (Fetch read from to) fits = reads_three_fields (λ read from to. Fetch read from to) (reads_counted size read fits.0) (reads_four from fits.1) (reads_four to fits.2)
-reads_fields edition size (Part read from end entries) fits = reads_four_fields (λ read from end entries. Part read from end entries) (reads_counted size read fits.0) (reads_four from fits.1) (reads_four end fits.2) (reads_list 256 (placed_at edition size) (placed_form edition) (PlacedFits edition) (lit≤ tt) (reads_placed edition size) entries fits.3)
-reads_fields edition size (Flush config from items) fits = reads_three_fields (λ config from items. Flush config from items) (reads_config size config fits.0) (reads_four from fits.1) (reads_items edition size 4096 items (lit≤ tt) fits.2)
-reads_fields edition size (FlushCopy view from cells) fits = reads_three_fields (λ view from cells. FlushCopy view from cells) (reads_counted size view fits.0) (reads_four from fits.1) (reads_cells edition size 4096 cells (lit≤ tt) fits.2)
+reads_fields edition size (Part read from end entries) fits = reads_four_fields (λ read from end entries. Part read from end entries) (reads_counted size read fits.0) (reads_four from fits.1) (reads_four end fits.2) (reads_list READ_LIMIT (placed_at edition size) (placed_form edition) (PlacedFits edition) (lit≤ tt) (reads_placed edition size) entries fits.3)
+reads_fields edition size (Flush config from items) fits = reads_three_fields (λ config from items. Flush config from items) (reads_config size config fits.0) (reads_four from fits.1) (reads_items edition size PENDING_LIMIT items (lit≤ tt) fits.2)
+reads_fields edition size (FlushCopy view from cells) fits = reads_three_fields (λ view from cells. FlushCopy view from cells) (reads_counted size view fits.0) (reads_four from fits.1) (reads_cells edition size PENDING_LIMIT cells (lit≤ tt) fits.2)
 reads_fields edition size (Flushed view) fits = reads_one (λ view. Flushed view) (reads_counted size view fits)
 reads_fields edition size (Seal view) fits = reads_one (λ view. Seal view) (reads_counted size view fits)
-reads_fields edition size (Sealed view bound window items) fits = reads_four_fields (λ view bound window items. Sealed view bound window items) (reads_counted size view fits.0) (reads_four bound fits.1) (reads_window edition size window fits.2) (reads_items edition size 4096 items (lit≤ tt) fits.3)
+reads_fields edition size (Sealed view bound window items) fits = reads_four_fields (λ view bound window items. Sealed view bound window items) (reads_counted size view fits.0) (reads_four bound fits.1) (reads_window edition size window fits.2) (reads_items edition size PENDING_LIMIT items (lit≤ tt) fits.3)
 reads_fields edition size (SealedEmpty view) fits = reads_one (λ view. SealedEmpty view) (reads_counted size view fits)
 reads_fields edition size (NewView config base window) fits = reads_three_fields (λ config base window. NewView config base window) (reads_config size config fits.0) (reads_four base fits.1) (reads_window edition size window fits.2)
 reads_fields edition size (Started view) fits = reads_one (λ view. Started view) (reads_counted size view fits)

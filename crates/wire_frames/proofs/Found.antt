@@ -10,6 +10,8 @@ use Rattle.lazy_msgs.specs.FrameLimits.{IsWord, IsCounted, IsNode}
 use Rattle.wire_frames.specs.declared.offence.FrameError.{FrameError}
 use Rattle.wire_frames.specs.declared.offence.FrameError.TheVariants.{Short, Field, Over}
 use Rattle.wire_frames.specs.Readers.{Taken, Reader, goes_on, ◌>>=◌, done, byte_at, part_at, number_at, judged, allowed, limited, counted_at, node_at, addressee_at, time_at, one_field, two_fields, three_fields, four_fields}
+use Rattle.lazy_msgs.specs.declared.limits.TheConstants.{TIME_LIMIT}
+use Rattle.view_config.specs.declared.nodes.TheConstants.{BOARD, MAX_NODE}
 
 abbrev pub IsBytes : List ℕ → Type 0
 IsBytes bytes = (i : ℕ) → get_or bytes i 0 < 256
@@ -203,15 +205,15 @@ takes_counted size = takes_weaker (takes_allowed size (nat_le 1) takes_word) (λ
 
 pub takes_node : (size : ℕ) → Takes (node_at size) two IsNode
 unfolding node_at
-takes_node size = takes_weaker (takes_allowed size (λ node. nat_le node 295) takes_two_bytes) (λ n fits. leb-true n 295 fits.1)
+takes_node size = takes_weaker (takes_allowed size (λ node. nat_le node MAX_NODE) takes_two_bytes) (λ n fits. leb-true n MAX_NODE fits.1)
 
-pub takes_addressee : (size : ℕ) → Takes (addressee_at size) two (λ n. n ≤ 296)
+pub takes_addressee : (size : ℕ) → Takes (addressee_at size) two (λ n. n ≤ BOARD)
 unfolding addressee_at
-takes_addressee size = takes_weaker (takes_allowed size (λ node. nat_le node 296) takes_two_bytes) (λ n fits. leb-true n 296 fits.1)
+takes_addressee size = takes_weaker (takes_allowed size (λ node. nat_le node BOARD) takes_two_bytes) (λ n fits. leb-true n BOARD fits.1)
 
-pub takes_time : (size : ℕ) → Takes (time_at size) eight (λ n. n < 2 ^ 40)
+pub takes_time : (size : ℕ) → Takes (time_at size) eight (λ n. n < TIME_LIMIT)
 unfolding time_at
-takes_time size = takes_weaker (takes_allowed size (λ time. nat_lt time (2 ^ 40)) takes_eight_bytes) (λ n fits. ltb-true n (2 ^ 40) fits.1)
+takes_time size = takes_weaker (takes_allowed size (λ time. nat_lt time TIME_LIMIT) takes_eight_bytes) (λ n fits. ltb-true n TIME_LIMIT fits.1)
 
 -- ---- behind what was read
 

@@ -18,6 +18,7 @@ use Rattle.lazy_msgs.specs.FrameLimits.{BytesFit, OptionalFits, ListFits, ItemFi
 use Rattle.wire_frames.specs.Readers.{Reader, ◌>>=◌, done, byte_at, part_at, allowed, limited, node_at, id_at, size_at, bytes_at, optional_at, item_at, body_at, cell_at, entry_at, placed_at, members_at, list_at, nodes_at, shards_at, config_at, words_in, end_at, are_bits, words_at, marks_at, window_at}
 use Rattle.wire_frames.proofs.Bits.{both_true, end_at_ends}
 use Rattle.wire_frames.proofs.Found.{IsBytes, IsBytes-take, IsBytes-drop, Parted, found_is, Takes, bind_ok, takes_weaker, Behind, behind_none, behind_done, behind_same, behind_one, behind_then, takes_two, takes_three, takes_allowed, takes_limited, takes_byte, takes_part, takes_two_bytes, takes_word, takes_counted, takes_node}
+use Rattle.view_config.specs.declared.limits.TheConstants.{MAX_CLIENTS, MAX_COPIES, MAX_SEQ, MAX_SHARDS, RECORD_LIMIT_ONE, RECORD_LIMIT_TWO}
 
 pub takes_id : (size : ℕ) → Takes (id_at size) id_form IsIdentity
 unfolding id_at
@@ -28,8 +29,8 @@ takes_id size =
 -- ---- bytes
 
 takes_size : (edition : Edition) → Takes (size_at edition) (size_form edition) (λ n. n ≤ record_limit edition)
-takes_size One = takes_weaker (takes_limited 4096 takes_two_bytes) (λ n fits. fits.1)
-takes_size Two = takes_weaker (takes_limited 65536 takes_word) (λ n fits. fits.1)
+takes_size One = takes_weaker (takes_limited RECORD_LIMIT_ONE takes_two_bytes) (λ n fits. fits.1)
+takes_size Two = takes_weaker (takes_limited RECORD_LIMIT_TWO takes_word) (λ n fits. fits.1)
 
 pub takes_bytes : (edition : Edition) → Takes (bytes_at edition) (bytes_form edition) (BytesFit edition)
 unfolding bytes_at
@@ -134,8 +135,8 @@ takes_nodes size limit =
 -- the nodes of each shard
 record ShardsFit (shards : List (List ℕ)) : Type 0 where
   least : 1 ≤ length shards
-  most : length shards ≤ 8
-  each : AllByRecursion (NodesFit 4) shards
+  most : length shards ≤ MAX_SHARDS
+  each : AllByRecursion (NodesFit MAX_COPIES) shards
 
 abbrev shards_form : List (List ℕ) → List ℕ
 shards_form shards = length shards ∷ flat_map nodes_form shards
@@ -143,14 +144,14 @@ shards_form shards = length shards ∷ flat_map nodes_form shards
 takes_shards : (size : ℕ) → Takes (shards_at size) shards_form ShardsFit
 unfolding shards_at
 takes_shards size =
-    behind_none (behind_then (members_at (nodes_at size 4)) shards_form ShardsFit (takes_few size 8) (λ n fits.
-    behind_same (takes_members (takes_nodes size 4) n) (λ shards found. ap (λ (k : ℕ). k ∷ flat_map nodes_form shards) found.0)
-    (λ shards found. record { least = subst (λ (k : ℕ). 1 ≤ k) (sym found.0) fits.0; most = subst (λ (k : ℕ). k ≤ 8) (sym found.0) fits.1; each = found.1 })))
+    behind_none (behind_then (members_at (nodes_at size MAX_COPIES)) shards_form ShardsFit (takes_few size MAX_SHARDS) (λ n fits.
+    behind_same (takes_members (takes_nodes size MAX_COPIES) n) (λ shards found. ap (λ (k : ℕ). k ∷ flat_map nodes_form shards) found.0)
+    (λ shards found. record { least = subst (λ (k : ℕ). 1 ≤ k) (sym found.0) fits.0; most = subst (λ (k : ℕ). k ≤ MAX_SHARDS) (sym found.0) fits.1; each = found.1 })))
 
 pub takes_config : (size : ℕ) → Takes (config_at size) config_form ConfigFits
 unfolding config_at
 takes_config size =
-    takes_three (λ view seq shards. record { view = view; seq = seq; shards = shards }) config_form ConfigFits (takes_counted size) (takes_nodes size 7) (takes_shards size)
+    takes_three (λ view seq shards. record { view = view; seq = seq; shards = shards }) config_form ConfigFits (takes_counted size) (takes_nodes size MAX_SEQ) (takes_shards size)
     (λ view seq shards. refl) (λ view seq shards p q r. record { view = p; seq = q; shards_least = r.least; shards_most = r.most; shards = r.each })
 
 -- ---- marks
@@ -197,6 +198,6 @@ takes_marks edition size =
 pub takes_window : (edition : Edition) (size : ℕ) → Takes (window_at edition size) (list_form marks_form) (WindowFits edition)
 unfolding window_at
 takes_window edition size =
-    behind_none (behind_then (members_at (marks_at edition size)) (list_form marks_form) (WindowFits edition) (takes_allowed size (nat_le 1) (takes_limited 256 takes_two_bytes)) (λ n fits.
+    behind_none (behind_then (members_at (marks_at edition size)) (list_form marks_form) (WindowFits edition) (takes_allowed size (nat_le 1) (takes_limited MAX_CLIENTS takes_two_bytes)) (λ n fits.
     behind_same (takes_members (takes_marks edition size) n) (λ window found. ap (λ (k : ℕ). two k ++ flat_map marks_form window) found.0)
-    (λ window found. record { least = subst (λ (k : ℕ). 1 ≤ k) (sym found.0) (leb-true 1 n fits.1); most = subst (λ (k : ℕ). k ≤ 256) (sym found.0) fits.0.1; each = found.1 })))
+    (λ window found. record { least = subst (λ (k : ℕ). 1 ≤ k) (sym found.0) (leb-true 1 n fits.1); most = subst (λ (k : ℕ). k ≤ MAX_CLIENTS) (sym found.0) fits.0.1; each = found.1 })))

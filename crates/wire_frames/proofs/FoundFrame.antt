@@ -18,6 +18,8 @@ use Rattle.wire_frames.proofs.AgainFrame.{reads_frame, frame_alone}
 use Rattle.wire_frames.proofs.Bits.{both_true}
 use Rattle.wire_frames.proofs.Found.{IsBytes, Found, Takes, takes_one, takes_two, takes_three, takes_four, takes_word, takes_counted, takes_node, takes_addressee, takes_time, behind_none, behind_done, behind_one, behind_same, behind_then}
 use Rattle.wire_frames.proofs.FoundFields.{takes_id, takes_bytes, takes_optional, takes_item, takes_cell, takes_placed, takes_list, takes_config, takes_window}
+use Rattle.lazy_msgs.specs.declared.limits.TheConstants.{BATCH_LIMIT, PENDING_LIMIT}
+use Rattle.rec_id.specs.declared.limits.TheConstants.{READ_LIMIT}
 
 -- a message of this kind that fits
 abbrev OfKind : Edition → ℕ → Msg → Type 0
@@ -56,7 +58,7 @@ kind_rejected edition size has = takes_two (λ id place. Rejected id place) (fie
 
 kind_place : (edition : Edition) (size : ℕ) → TakesKind edition size 6
 unfolding fields_at
-kind_place edition size has = takes_three (λ view from items. Place view from items) (fields_form edition) (OfKind edition 6) (takes_counted size) takes_word (takes_list 64 (takes_item edition size)) (λ view from items. refl) (λ view from items p q r. ((p, q, r), refl))
+kind_place edition size has = takes_three (λ view from items. Place view from items) (fields_form edition) (OfKind edition 6) (takes_counted size) takes_word (takes_list BATCH_LIMIT (takes_item edition size)) (λ view from items. refl) (λ view from items p q r. ((p, q, r), refl))
 
 kind_placed : (edition : Edition) (size : ℕ) → TakesKind edition size 7
 unfolding fields_at
@@ -64,7 +66,7 @@ kind_placed edition size has = takes_two (λ view upto. Placed view upto) (field
 
 kind_copy : (edition : Edition) (size : ℕ) → TakesKind edition size 8
 unfolding fields_at
-kind_copy edition size has = takes_three (λ view from cells. Copy view from cells) (fields_form edition) (OfKind edition 8) (takes_counted size) takes_word (takes_list 64 (takes_cell edition size)) (λ view from cells. refl) (λ view from cells p q r. ((p, q, r), refl))
+kind_copy edition size has = takes_three (λ view from cells. Copy view from cells) (fields_form edition) (OfKind edition 8) (takes_counted size) takes_word (takes_list BATCH_LIMIT (takes_cell edition size)) (λ view from cells. refl) (λ view from cells p q r. ((p, q, r), refl))
 
 kind_copied : (edition : Edition) (size : ℕ) → TakesKind edition size 9
 unfolding fields_at
@@ -72,7 +74,7 @@ kind_copied edition size has = takes_two (λ view upto. Copied view upto) (field
 
 kind_order : (edition : Edition) (size : ℕ) → TakesKind edition size 10
 unfolding fields_at
-kind_order edition size has = takes_three (λ view from ids. Order view from ids) (fields_form edition) (OfKind edition 10) (takes_counted size) takes_word (takes_list 64 (takes_id size)) (λ view from ids. refl) (λ view from ids p q r. ((p, q, r), refl))
+kind_order edition size has = takes_three (λ view from ids. Order view from ids) (fields_form edition) (OfKind edition 10) (takes_counted size) takes_word (takes_list BATCH_LIMIT (takes_id size)) (λ view from ids. refl) (λ view from ids p q r. ((p, q, r), refl))
 
 kind_ordered : (edition : Edition) (size : ℕ) → TakesKind edition size 11
 unfolding fields_at
@@ -100,15 +102,15 @@ kind_fetch edition size has = takes_three (λ read from to. Fetch read from to) 
 
 kind_part : (edition : Edition) (size : ℕ) → TakesKind edition size 17
 unfolding fields_at
-kind_part edition size has = takes_four (λ read from end entries. Part read from end entries) (fields_form edition) (OfKind edition 17) (takes_counted size) takes_word takes_word (takes_list 256 (takes_placed edition size)) (λ read from end entries. refl) (λ read from end entries p q r s. ((p, q, r, s), refl))
+kind_part edition size has = takes_four (λ read from end entries. Part read from end entries) (fields_form edition) (OfKind edition 17) (takes_counted size) takes_word takes_word (takes_list READ_LIMIT (takes_placed edition size)) (λ read from end entries. refl) (λ read from end entries p q r s. ((p, q, r, s), refl))
 
 kind_flush : (edition : Edition) (size : ℕ) → TakesKind edition size 18
 unfolding fields_at
-kind_flush edition size has = takes_three (λ config from items. Flush config from items) (fields_form edition) (OfKind edition 18) (takes_config size) takes_word (takes_list 4096 (takes_item edition size)) (λ config from items. refl) (λ config from items p q r. ((p, q, r), refl))
+kind_flush edition size has = takes_three (λ config from items. Flush config from items) (fields_form edition) (OfKind edition 18) (takes_config size) takes_word (takes_list PENDING_LIMIT (takes_item edition size)) (λ config from items. refl) (λ config from items p q r. ((p, q, r), refl))
 
 kind_flush_copy : (edition : Edition) (size : ℕ) → TakesKind edition size 19
 unfolding fields_at
-kind_flush_copy edition size has = takes_three (λ view from cells. FlushCopy view from cells) (fields_form edition) (OfKind edition 19) (takes_counted size) takes_word (takes_list 4096 (takes_cell edition size)) (λ view from cells. refl) (λ view from cells p q r. ((p, q, r), refl))
+kind_flush_copy edition size has = takes_three (λ view from cells. FlushCopy view from cells) (fields_form edition) (OfKind edition 19) (takes_counted size) takes_word (takes_list PENDING_LIMIT (takes_cell edition size)) (λ view from cells. refl) (λ view from cells p q r. ((p, q, r), refl))
 
 kind_flushed : (edition : Edition) (size : ℕ) → TakesKind edition size 20
 unfolding fields_at
@@ -120,7 +122,7 @@ kind_seal edition size has = takes_one (λ view. Seal view) (fields_form edition
 
 kind_sealed : (edition : Edition) (size : ℕ) → TakesKind edition size 22
 unfolding fields_at
-kind_sealed edition size has = takes_four (λ view bound window items. Sealed view bound window items) (fields_form edition) (OfKind edition 22) (takes_counted size) takes_word (takes_window edition size) (takes_list 4096 (takes_item edition size)) (λ view bound window items. refl) (λ view bound window items p q r s. ((p, q, r, s), refl))
+kind_sealed edition size has = takes_four (λ view bound window items. Sealed view bound window items) (fields_form edition) (OfKind edition 22) (takes_counted size) takes_word (takes_window edition size) (takes_list PENDING_LIMIT (takes_item edition size)) (λ view bound window items. refl) (λ view bound window items p q r s. ((p, q, r, s), refl))
 
 kind_sealed_empty : (edition : Edition) (size : ℕ) → TakesKind edition size 23
 unfolding fields_at

@@ -18,6 +18,10 @@ use Rattle.wire_frames.specs.Laws.{CutIsShort, MoreIsTrailing}
 use Rattle.wire_frames.specs.Readers.{Reader, ◌>>=◌, done, byte_at, part_at, number_at, judged, allowed, limited, counted_at, node_at, addressee_at, time_at, id_at, size_at, bytes_at, optional_at, item_at, body_at, cell_at, entry_at, placed_at, members_at, list_at, nodes_at, shards_at, config_at, words_in, are_bits, words_at, marks_at, window_at, one_field, two_fields, three_fields, four_fields, fields_at, edition_at, kind_at, last_kind, envelope_at, frame_at, whole_at}
 use Rattle.wire_frames.proofs.AgainFrame.{reads_frame}
 use Rattle.wire_frames.proofs.Found.{bind_ok, judged_ok, taken_is}
+use Rattle.lazy_msgs.specs.declared.limits.TheConstants.{BATCH_LIMIT, PENDING_LIMIT, TIME_LIMIT}
+use Rattle.view_config.specs.declared.nodes.TheConstants.{BOARD, MAX_NODE}
+use Rattle.rec_id.specs.declared.limits.TheConstants.{READ_LIMIT}
+use Rattle.view_config.specs.declared.limits.TheConstants.{MAX_CLIENTS, MAX_COPIES, MAX_SEQ, MAX_SHARDS, RECORD_LIMIT_ONE, RECORD_LIMIT_TWO}
 
 -- either the bytes before the cut are too short, or all that was taken stands before it
 abbrev Cut : {A : Type 0} → Reader A → List ℕ → List ℕ → A → List ℕ → Type 0
@@ -110,15 +114,15 @@ local_counted size = local_allowed size (nat_le 1) (local_number w32)
 
 local_node : (size : ℕ) → Local (node_at size)
 unfolding node_at
-local_node size = local_allowed size (λ node. nat_le node 295) (local_number w16)
+local_node size = local_allowed size (λ node. nat_le node MAX_NODE) (local_number w16)
 
 local_addressee : (size : ℕ) → Local (addressee_at size)
 unfolding addressee_at
-local_addressee size = local_allowed size (λ node. nat_le node 296) (local_number w16)
+local_addressee size = local_allowed size (λ node. nat_le node BOARD) (local_number w16)
 
 local_time : (size : ℕ) → Local (time_at size)
 unfolding time_at
-local_time size = local_allowed size (λ time. nat_lt time (2 ^ 40)) (local_number w64)
+local_time size = local_allowed size (λ time. nat_lt time TIME_LIMIT) (local_number w64)
 
 -- ---- several fields
 
@@ -139,8 +143,8 @@ unfolding id_at
 local_id size = local_two (λ client number. record { client = client; number = number }) local_byte (local_counted size)
 
 local_size : (edition : Edition) → Local (size_at edition)
-local_size One = local_limited 4096 (local_number w16)
-local_size Two = local_limited 65536 (local_number w32)
+local_size One = local_limited RECORD_LIMIT_ONE (local_number w16)
+local_size Two = local_limited RECORD_LIMIT_TWO (local_number w32)
 
 local_bytes : (edition : Edition) → Local (bytes_at edition)
 unfolding bytes_at
@@ -193,11 +197,11 @@ local_nodes size limit = local_then (local_few size limit) (local_members (local
 
 local_shards : (size : ℕ) → Local (shards_at size)
 unfolding shards_at
-local_shards size = local_then (local_few size 8) (local_members (local_nodes size 4))
+local_shards size = local_then (local_few size MAX_SHARDS) (local_members (local_nodes size MAX_COPIES))
 
 local_config : (size : ℕ) → Local (config_at size)
 unfolding config_at
-local_config size = local_three (λ view seq shards. record { view = view; seq = seq; shards = shards }) (local_counted size) (local_nodes size 7) (local_shards size)
+local_config size = local_three (λ view seq shards. record { view = view; seq = seq; shards = shards }) (local_counted size) (local_nodes size MAX_SEQ) (local_shards size)
 
 local_words : (count : ℕ) → Local (words_at count)
 local_words count = local_one (words_in count) (local_part (8 * count))
@@ -208,7 +212,7 @@ local_marks edition size = local_then (local_number w32) (λ top. local_one (λ 
 
 local_window : (edition : Edition) (size : ℕ) → Local (window_at edition size)
 unfolding window_at
-local_window edition size = local_then (local_allowed size (nat_le 1) (local_limited 256 (local_number w16))) (local_members (local_marks edition size))
+local_window edition size = local_then (local_allowed size (nat_le 1) (local_limited MAX_CLIENTS (local_number w16))) (local_members (local_marks edition size))
 
 -- ---- messages and frames
 
@@ -220,23 +224,23 @@ local_fields edition size kind =
     local_if (kind == 3) (local_two (λ id bytes. Put id bytes) (local_id size) (local_bytes edition)) (
     local_if (kind == 4) (local_two (λ view id. DataAck view id) (local_counted size) (local_id size)) (
     local_if (kind == 5) (local_two (λ id place. Rejected id place) (local_id size) (local_number w32)) (
-    local_if (kind == 6) (local_three (λ view from items. Place view from items) (local_counted size) (local_number w32) (local_list 64 (local_item edition size))) (
+    local_if (kind == 6) (local_three (λ view from items. Place view from items) (local_counted size) (local_number w32) (local_list BATCH_LIMIT (local_item edition size))) (
     local_if (kind == 7) (local_two (λ view upto. Placed view upto) (local_counted size) (local_number w32)) (
-    local_if (kind == 8) (local_three (λ view from cells. Copy view from cells) (local_counted size) (local_number w32) (local_list 64 (local_cell edition size))) (
+    local_if (kind == 8) (local_three (λ view from cells. Copy view from cells) (local_counted size) (local_number w32) (local_list BATCH_LIMIT (local_cell edition size))) (
     local_if (kind == 9) (local_two (λ view upto. Copied view upto) (local_counted size) (local_number w32)) (
-    local_if (kind == 10) (local_three (λ view from ids. Order view from ids) (local_counted size) (local_number w32) (local_list 64 (local_id size))) (
+    local_if (kind == 10) (local_three (λ view from ids. Order view from ids) (local_counted size) (local_number w32) (local_list BATCH_LIMIT (local_id size))) (
     local_if (kind == 11) (local_two (λ view upto. Ordered view upto) (local_counted size) (local_number w32)) (
     local_if (kind == 12) (local_two (λ view upto. Stable view upto) (local_counted size) (local_number w32)) (
     local_if (kind == 13) (local_two (λ view read. Probe view read) (local_counted size) (local_counted size)) (
     local_if (kind == 14) (local_two (λ view read. ProbeAck view read) (local_counted size) (local_counted size)) (
     local_if (kind == 15) (local_three (λ view read tail. TailReady view read tail) (local_counted size) (local_counted size) (local_number w32)) (
     local_if (kind == 16) (local_three (λ read from to. Fetch read from to) (local_counted size) (local_number w32) (local_number w32)) (
-    local_if (kind == 17) (local_four (λ read from end entries. Part read from end entries) (local_counted size) (local_number w32) (local_number w32) (local_list 256 (local_placed edition size))) (
-    local_if (kind == 18) (local_three (λ config from items. Flush config from items) (local_config size) (local_number w32) (local_list 4096 (local_item edition size))) (
-    local_if (kind == 19) (local_three (λ view from cells. FlushCopy view from cells) (local_counted size) (local_number w32) (local_list 4096 (local_cell edition size))) (
+    local_if (kind == 17) (local_four (λ read from end entries. Part read from end entries) (local_counted size) (local_number w32) (local_number w32) (local_list READ_LIMIT (local_placed edition size))) (
+    local_if (kind == 18) (local_three (λ config from items. Flush config from items) (local_config size) (local_number w32) (local_list PENDING_LIMIT (local_item edition size))) (
+    local_if (kind == 19) (local_three (λ view from cells. FlushCopy view from cells) (local_counted size) (local_number w32) (local_list PENDING_LIMIT (local_cell edition size))) (
     local_if (kind == 20) (local_one (λ view. Flushed view) (local_counted size)) (
     local_if (kind == 21) (local_one (λ view. Seal view) (local_counted size)) (
-    local_if (kind == 22) (local_four (λ view bound window items. Sealed view bound window items) (local_counted size) (local_number w32) (local_window edition size) (local_list 4096 (local_item edition size))) (
+    local_if (kind == 22) (local_four (λ view bound window items. Sealed view bound window items) (local_counted size) (local_number w32) (local_window edition size) (local_list PENDING_LIMIT (local_item edition size))) (
     local_if (kind == 23) (local_one (λ view. SealedEmpty view) (local_counted size)) (
     local_if (kind == 24) (local_three (λ config base window. NewView config base window) (local_config size) (local_number w32) (local_window edition size)) (
     local_if (kind == 25) (local_one (λ view. Started view) (local_counted size)) (
