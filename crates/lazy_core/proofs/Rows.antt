@@ -1,15 +1,14 @@
-use Rattle.std.proofs.Common.{◌≡◌, ℕ, ◌<◌, List, [], Bool, true, false, All, Option, None, Some, refl, arith, if◌then◌else◌}
-use Rattle.std.specs.List.{slice_get}
+use Rattle.std.proofs.Common.{◌≡◌, ℕ, ◌<◌, List, [], false, All, Option, refl, arith}
 use Rattle.std.proofs.lemmas.Bool.Decides.{nat_tests}
 use Rattle.std.proofs.lemmas.List.Elements.{All-nil, All-cons}
-use Rattle.list_facts.proofs.Cases.{either}
+use Rattle.list_facts.proofs.Cases.{either, some_or_none}
 use Rattle.rec_id.specs.Identity.{Identity}
 use Rattle.view_config.specs.Shape.{Dimensions}
 use Rattle.lazy_msgs.specs.declared.msg.Msg.{Msg}
 use Rattle.lazy_msgs.specs.declared.msg.Msg.TheVariants.{Append, AppendAck}
 use Rattle.lazy_msgs.specs.Step.{Row}
 use Rattle.lazy_rules.specs.ClientState.{ClientState, OpenAppend}
-use Rattle.lazy_rules.specs.ClientRules.{client_took, on_append_ack, acknowledged, acknowledged_at, acknowledges, noted, is_complete, place_of}
+use Rattle.lazy_rules.specs.ClientRules.{client_took, on_append_ack, advances, noted, is_complete}
 use Rattle.lazy_rules.specs.Door.{is_turned_away}
 use Rattle.lazy_rules.specs.Rows.{stays, answers}
 use Rattle.lazy_rules.specs.SeqState.{SeqState}
@@ -52,23 +51,15 @@ pub record Notes (shape : Dimensions) (row : Row ClientState) : Type 0 where
 notes_stays : (shape : Dimensions) (c : ClientState) → IsInFirstView shape c → Notes shape (stays c)
 notes_stays shape c h = record { first = h; silent = refl }
 
-notes_acknowledges : (shape : Dimensions) (c : ClientState) (i : ℕ) (append : OpenAppend) → IsInFirstView shape c → Notes shape (acknowledges c i append)
-notes_acknowledges shape c i append h =
+notes_advances : (shape : Dimensions) (c : ClientState) (i : ℕ) (append : OpenAppend) → IsInFirstView shape c → Notes shape (advances c i append)
+notes_advances shape c i append h =
     either (Notes shape) (is_complete c append) _ _
     (λ e. record { first = record { shaped = h.shaped; first = h.first }; silent = refl })
     (λ e. record { first = record { shaped = h.shaped; first = h.first }; silent = refl })
 
-notes_at : (shape : Dimensions) (c : ClientState) (node i : ℕ) (there : Option OpenAppend) → IsInFirstView shape c → Notes shape (acknowledged_at c node i there)
-notes_at shape c node i None h = notes_stays shape c h
-notes_at shape c node i (Some append) h = notes_acknowledges shape c i (noted append node) h
-
-notes_acknowledged : (shape : Dimensions) (c : ClientState) (node : ℕ) (place : Option ℕ) → IsInFirstView shape c → Notes shape (acknowledged c node place)
-notes_acknowledged shape c node None h = notes_stays shape c h
-notes_acknowledged shape c node (Some i) h = notes_at shape c node i (slice_get c.unfinished i) h
-
 notes_on_ack : (shape : Dimensions) (c : ClientState) (from view : ℕ) (id : Identity) → IsInFirstView shape c → Notes shape (on_append_ack c from view id)
 notes_on_ack shape c from view id h =
-    search (either (Notes shape), notes_stays shape c h, notes_acknowledged shape c from (place_of c id.number) h)
+    search (either (Notes shape), some_or_none {A = ℕ} (Notes shape), some_or_none {A = OpenAppend} (Notes shape), notes_stays shape c h, λ (i : ℕ) (append : OpenAppend). notes_advances shape c i (noted append from) h) depth 12
 
 pub ack_notes : (shape : Dimensions) (c : ClientState) (from view : ℕ) (id : Identity) → IsInFirstView shape c → Notes shape (client_took c from (AppendAck view id))
 ack_notes shape c from view id h =

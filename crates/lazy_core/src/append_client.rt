@@ -5,7 +5,7 @@ ghost use Rattle.std.specs.Prelude.{◌≡◌, ◌≢◌, ◌<◌, ◌==◌, len
 ghost use Rattle.lazy_msgs.specs.declared.msg.Msg.TheVariants.{AppendAck};
 ghost use Rattle.lazy_msgs.specs.Step.{StepsTo};
 ghost use Rattle.lazy_rules.specs.ClientState.{first_client, id_of, lowest};
-ghost use Rattle.lazy_rules.specs.ClientRules.{post_refusal, invokes, client_took, homes_of, data_nodes, sending, with_node, noted, is_complete, place_of, acknowledges, acknowledged, on_append_ack};
+ghost use Rattle.lazy_rules.specs.ClientRules.{post_refusal, invokes, client_took, homes_of, data_nodes, sending, with_node, noted, is_complete, place_of, advances, notes, on_append_ack};
 ghost use Rattle.lazy_rules.specs.ClientState.{OpenAppend as Unfinished};
 ghost use Rattle.lazy_rules.specs.Rows.{has_node};
 ghost use Rattle.std.specs.List.{list_all, list_any};
@@ -294,7 +294,7 @@ impl AppendClient {
     ) -> Result<(), StepRefused>
         requires there { place < length self.old.unfinished }
         requires own { id ≡ id_of self.old id.number }
-        ensures { (append : Unfinished) → slice_get self.old.unfinished place ≡ Some append → append.number ≡ id.number → StepsTo (acknowledges self.old place (noted append from)) self.old self.new out.old out.new result StepRefused.Over }
+        ensures { (append : Unfinished) → slice_get self.old.unfinished place ≡ Some append → append.number ≡ id.number → StepsTo (advances self.old place (noted append from)) self.old self.new out.old out.new result StepRefused.Over }
     {
         let acked = self.acked_with(place, from)?;
         if self.is_complete(id, acked.as_slice()) {
@@ -308,7 +308,7 @@ impl AppendClient {
     /// The append of this client that has the identity `id` was acknowledged by one node more.
     fn acknowledged(&mut self, from: u32, id: RecordId, out: &mut Outbox) -> Result<(), StepRefused>
         requires { id ≡ id_of self.old id.number }
-        ensures { StepsTo (acknowledged self.old from (place_of self.old id.number)) self.old self.new out.old out.new result StepRefused.Over }
+        ensures { StepsTo (notes self.old from id.number) self.old self.new out.old out.new result StepRefused.Over }
     {
         let number = id.number();
         match self.place_of(number) {

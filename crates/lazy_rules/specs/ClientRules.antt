@@ -1,5 +1,6 @@
 use Rattle.std.specs.Prelude.{ℕ, ◌+◌, ◌-◌, ◌^◌, List, [], ◌∷◌, ◌++◌, length, map, filter, take, flat_map, position, remove, Bool, not, ◌&&◌, ◌==◌, nat_le, nat_lt, if◌then◌else◌, Option, Some, None, slice_get, slice_set, unwrap_or}
 use Rattle.std.specs.List.{list_all}
+use Rattle.std.specs.Option.{is_none, option_map_or}
 use Rattle.rec_id.specs.Identity.{Identity, shard_of}
 use Rattle.rec_id.specs.declared.event.Event.TheVariants.{Invoke, Acked, Rejected as RejectedEvent}
 use Rattle.view_config.specs.declared.edition.Mode.{Mode}
@@ -92,23 +93,23 @@ finishes c i append = record {
   events = Acked (id_of c append.number) ∷ [];
 }
 
--- the append at place i has been acknowledged by one node more
-abbrev pub acknowledges : ClientState → ℕ → OpenAppend → Row ClientState
-acknowledges c i append =
-    if is_complete c append then finishes c i append
-    else stays (record c { unfinished = slice_set c.unfinished i append })
-
-abbrev pub acknowledged_at : ClientState → ℕ → ℕ → Option OpenAppend → Row ClientState
-acknowledged_at c node i None = stays c
-acknowledged_at c node i (Some append) = acknowledges c i (noted append node)
-
-abbrev pub acknowledged : ClientState → ℕ → Option ℕ → Row ClientState
-acknowledged c node None = stays c
-acknowledged c node (Some i) = acknowledged_at c node i (slice_get c.unfinished i)
-
 -- where an append of this number stands among the unfinished ones
 abbrev pub place_of : ClientState → ℕ → Option ℕ
 place_of c number = position (λ append. append.number == number) c.unfinished
+
+-- the append at place i is this from now on, and finished where it is complete
+abbrev pub advances : ClientState → ℕ → OpenAppend → Row ClientState
+advances c i append =
+    if is_complete c append then finishes c i append
+    else stays (record c { unfinished = slice_set c.unfinished i append })
+
+-- an acknowledgement of the unfinished append of this number by this node is noted
+abbrev pub notes : ClientState → ℕ → ℕ → Row ClientState
+notes c node number =
+    option_map_or
+    (λ i. option_map_or (λ append. advances c i (noted append node)) (slice_get c.unfinished i) (stays c))
+    (place_of c number)
+    (stays c)
 
 -- AppendAck: noted where it is of the client's view and of a sequencing replica of it
 abbrev pub on_append_ack : ClientState → ℕ → ℕ → Identity → Row ClientState
@@ -116,7 +117,7 @@ on_append_ack c sender view id =
     if not (view == c.config.view) then stays c
     else (if not (id.client == c.client) then stays c
     else (if not (has_node c.config.seq sender) then stays c
-    else acknowledged c sender (place_of c id.number)))
+    else notes c sender id.number))
 
 -- DataAck: the same, where it is of the client's view and of a replica of the record's shard in it
 abbrev pub on_data_ack : ClientState → ℕ → ℕ → Identity → Row ClientState
@@ -124,19 +125,20 @@ on_data_ack c sender view id =
     if not (view == c.config.view) then stays c
     else (if not (id.client == c.client) then stays c
     else (if not (has_node (homes_of c id) sender) then stays c
-    else acknowledged c sender (place_of c id.number)))
+    else notes c sender id.number))
 
 -- Rejected: the append is finished, and the client is told the place of the no-op
-abbrev pub rejects : ClientState → Identity → ℕ → Option ℕ → Row ClientState
-rejects c id place None = stays c
-rejects c id place (Some i) = record {
+abbrev pub rejects : ClientState → ℕ → Identity → ℕ → Row ClientState
+rejects c i id place = record {
   next = record c { unfinished = remove c.unfinished i };
   sends = [];
   events = RejectedEvent id place ∷ [];
 }
 
 abbrev pub on_rejected : ClientState → Identity → ℕ → Row ClientState
-on_rejected c id place = if not (id.client == c.client) then stays c else rejects c id place (place_of c id.number)
+on_rejected c id place =
+    if not (id.client == c.client) then stays c
+    else option_map_or (λ i. rejects c i id place) (place_of c id.number) (stays c)
 
 -- SENDING each of these appends
 abbrev pub sending_each : ClientState → List OpenAppend → Row ClientState
@@ -160,12 +162,8 @@ abbrev pub on_client_tick : ClientState → Row ClientState
 on_client_tick c = sending_each c (take RESENT_LIMIT c.unfinished)
 
 -- Post, where it isn't refused
-abbrev pub posts : ClientState → List ℕ → Option PostRefused → Row ClientState
-posts c bytes None = invokes c bytes
-posts c bytes (Some refused) = stays c
-
 abbrev pub on_post : ClientState → List ℕ → Row ClientState
-on_post c bytes = posts c bytes (post_refusal c (length bytes))
+on_post c bytes = if is_none (post_refusal c (length bytes)) then invokes c bytes else stays c
 
 -- what a message does, at a client that it isn't turned away from
 abbrev pub client_row : ClientState → ℕ → Msg → Row ClientState

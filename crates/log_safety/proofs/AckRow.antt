@@ -1,12 +1,12 @@
 -- AppendAck at a client.
-use Rattle.std.proofs.Common.{◌≡◌, ◌≢◌, ℕ, ◌<◌, ◌≤◌, List, [], ◌∷◌, ◌++◌, true, false, not, Option, Some, None, inl, inr, refl, sym, ap, ◌∙◌, subst, append-nil, arith}
+use Rattle.std.proofs.Common.{◌≡◌, ◌≢◌, ℕ, ◌<◌, ◌≤◌, List, [], ◌∷◌, ◌++◌, true, false, not, Some, None, inl, inr, refl, sym, ap, ◌∙◌, subst, append-nil, arith}
 use Rattle.std.specs.Prelude.{◌==◌, slice_get, slice_set, remove}
 use Rattle.std.specs.List.{list_all, range_with_len}
 use Rattle.std.proofs.lemmas.Bool.{and_parts, not-false, eqb-true}
 use Rattle.std.proofs.lemmas.List.Quantifiers.{position-Some}
 use Rattle.std.proofs.lemmas.Option.{get_or_from_slice_get}
 use Rattle.list_facts.specs.Lists.{In, Each, put}
-use Rattle.list_facts.proofs.Cases.{either}
+use Rattle.list_facts.proofs.Cases.{either, some_or_none}
 use Rattle.list_facts.proofs.Changes.{each_set, in_set, in_set_cases, in_removed, in_remove_cases}
 use Rattle.list_facts.proofs.Members.{in_last, in_more, in_each, in_map, in_passes, all_pass, each_append, each_weaker, each_in}
 use Rattle.list_facts.proofs.Places.{each_at}
@@ -26,7 +26,7 @@ use Rattle.rec_id.specs.declared.event.Event.TheVariants.{Invoke, Acked}
 use Rattle.view_config.specs.declared.config.Config.{Config}
 use Rattle.view_config.specs.Nodes.{seq_id}
 use Rattle.view_config.specs.Shape.{Dimensions}
-use Rattle.lazy_rules.specs.ClientRules.{noted, is_complete, data_nodes, homes_of, finishes, acknowledges, acknowledged_at, acknowledged, place_of, on_append_ack}
+use Rattle.lazy_rules.specs.ClientRules.{noted, is_complete, data_nodes, homes_of, finishes, advances, place_of, on_append_ack}
 use Rattle.lazy_rules.specs.ClientState.{ClientState, OpenAppend, id_of}
 use Rattle.lazy_rules.specs.Rows.{stays, has_node}
 use Rattle.lazy_rules.specs.SeqState.{SeqState, first_view}
@@ -235,7 +235,7 @@ module _ (shape : Dimensions) (g : Ghost) (a : Parts) (c : ℕ) (there : c < sha
       said = tt;
     }
 
-    pub good_known : GoodClient shape g a c (acknowledges k i known)
+    pub good_known : GoodClient shape g a c (advances k i known)
     good_known = either (GoodClient shape g a c) (is_complete k known) (finishes k i known) (stays k_noted) (λ complete. good_ends complete) (λ h. good_noted)
 
   -- the row
@@ -245,18 +245,12 @@ module _ (shape : Dimensions) (g : Ghost) (a : Parts) (c : ℕ) (there : c < sha
         let found = position-Some (λ (other : OpenAppend). other.number == id.number) k.unfinished i append place in
         eqb-true append.number id.number (ap (λ (x : OpenAppend). x.number == id.number) (sym (get_or_from_slice_get k.unfinished i append append at)) ∙ found.1)
 
-    at_place : (i : ℕ) (o : Option OpenAppend) → (view ≡ k.config.view) → (id.client ≡ k.client) → has_node k.config.seq from ≡ true → place_of k id.number ≡ Some i → slice_get k.unfinished i ≡ o → GoodClient shape g a c (acknowledged_at k from i o)
-    at_place i None viewed own listed place at = good_stays
-    at_place i (Some append) viewed own listed place at =
-        let same : id ≡ id_of k append.number = ap (λ (n : ℕ). record { client = n; number = id.number }) own ∙ ap (λ (n : ℕ). id_of k n) (sym (numbered i append place at)) in
-        good_known from i append at listed (subst (λ (n : ℕ). AckSays shape g a from n (id_of k append.number)) viewed (subst (λ (x : Identity). AckSays shape g a from view x) same says))
-
-    at_number : (o : Option ℕ) → (view ≡ k.config.view) → (id.client ≡ k.client) → has_node k.config.seq from ≡ true → place_of k id.number ≡ o → GoodClient shape g a c (acknowledged k from o)
-    at_number None viewed own listed place = good_stays
-    at_number (Some i) viewed own listed place = at_place i (slice_get k.unfinished i) viewed own listed place refl
-
     pub good_ack : GoodClient shape g a c (on_append_ack k from view id)
-    good_ack = search (either (GoodClient shape g a c), good_stays, tried)
+    good_ack = search (either (GoodClient shape g a c), some_or_none {A = ℕ} (GoodClient shape g a c), some_or_none {A = OpenAppend} (GoodClient shape g a c), good_stays, tried) depth 12
       where
-        tried : not (view == k.config.view) ≡ false → not (id.client == k.client) ≡ false → not (has_node k.config.seq from) ≡ false → GoodClient shape g a c (acknowledged k from (place_of k id.number))
-        tried one two three = at_number (place_of k id.number) (eqb-true view k.config.view (not-false (view == k.config.view) one)) (eqb-true id.client k.client (not-false (id.client == k.client) two)) (not-false (has_node k.config.seq from) three) refl
+        tried : not (view == k.config.view) ≡ false → not (id.client == k.client) ≡ false → not (has_node k.config.seq from) ≡ false → (i : ℕ) → place_of k id.number ≡ Some i → (append : OpenAppend) → slice_get k.unfinished i ≡ Some append → GoodClient shape g a c (advances k i (noted append from))
+        tried viewed own listed i place append at =
+            let in_view = eqb-true view k.config.view (not-false (view == k.config.view) viewed) in
+            let of_client = eqb-true id.client k.client (not-false (id.client == k.client) own) in
+            let same : id ≡ id_of k append.number = ap (λ (n : ℕ). record { client = n; number = id.number }) of_client ∙ ap (λ (n : ℕ). id_of k n) (sym (numbered i append place at)) in
+            good_known from i append at (not-false (has_node k.config.seq from) listed) (subst (λ (n : ℕ). AckSays shape g a from n (id_of k append.number)) in_view (subst (λ (x : Identity). AckSays shape g a from view x) same says))
