@@ -1,5 +1,5 @@
 -- Lists with another member at a place, or with a member less.
-use Rattle.std.proofs.Common.{◌≡◌, ◌⊎◌, ℕ, zero, suc, Some, List, [], ◌∷◌, slice_get, inl, inr, refl, sym, ap, subst}
+use Rattle.std.proofs.Common.{◌≡◌, ◌⊎◌, ℕ, zero, suc, Some, List, [], ◌∷◌, slice_get, inl, inr, refl, ap, subst}
 use Rattle.std.specs.Prelude.{slice_set, remove}
 use Rattle.list_facts.specs.Lists.{In, Each}
 
@@ -22,21 +22,9 @@ module _ {A : Type 0} where
   in_set (z ∷ zs) zero y x h = inl refl
   in_set (z ∷ zs) (suc i) y x h = inr (in_set zs i y x h)
 
-  -- a list without the member at a place, part by part
-  pub remove_first : (z : A) (zs : List A) → remove (z ∷ zs) zero ≡ zs
-  remove_first z zs = refl
-
-  pub remove_later : (z : A) (zs : List A) (i : ℕ) → remove (z ∷ zs) (suc i) ≡ z ∷ remove zs i
-  remove_later z zs i = refl
-
   pub remove_none : (i : ℕ) → remove {X = A} [] i ≡ []
   remove_none zero = refl
   remove_none (suc i) = refl
-
-  pub each_remove : (P : A → Type 0) (xs : List A) (i : ℕ) → Each P xs → Each P (remove xs i)
-  each_remove P [] i h = subst (Each P) (sym (remove_none i)) tt
-  each_remove P (z ∷ zs) zero h = h.1
-  each_remove P (z ∷ zs) (suc i) h = (h.0, each_remove P zs i h.1)
 
   pub in_removed : (xs : List A) (i : ℕ) (x : A) → In x (remove xs i) → In x xs
   in_removed [] i x h = subst (λ (ys : List A). In x ys) (remove_none i) h

@@ -1,8 +1,7 @@
 -- Lists in which no member stands twice.
-use Rattle.std.proofs.Common.{◌≡◌, ℕ, zero, suc, Some, Bool, true, false, cond, List, [], ◌∷◌, ◌++◌, slice_get, inl, inr, refl, sym, ap, subst}
-use Rattle.std.specs.List.{filter}
+use Rattle.std.proofs.Common.{◌≡◌, ℕ, zero, suc, Some, List, [], ◌∷◌, ◌++◌, slice_get, inl, inr, refl, sym, ap, subst}
 use Rattle.list_facts.specs.Lists.{In, Distinct}
-use Rattle.list_facts.proofs.Members.{in_left, in_right, in_cases, in_filter}
+use Rattle.list_facts.proofs.Members.{in_cases}
 use Rattle.list_facts.proofs.Places.{in_at}
 
 module _ {A : Type 0} where
@@ -16,27 +15,6 @@ module _ {A : Type 0} where
   -- one member more, which was not there
   pub distinct_more : (x : A) (xs : List A) → Distinct xs → ¬ In x xs → Distinct (xs ++ x ∷ [])
   distinct_more x xs h absent = distinct_append xs (x ∷ []) h (λ none. none, tt) (λ y m n. elim n [ inl e ↦ absurd (absent (subst (λ w. In w xs) (sym e) m)) | inr none ↦ absurd none ])
-
-  pub distinct_left : (xs ys : List A) → Distinct (xs ++ ys) → Distinct xs
-  distinct_left [] ys h = tt
-  distinct_left (z ∷ zs) ys h = (λ m. h.0 (in_left z zs ys m), distinct_left zs ys h.1)
-
-  pub distinct_right : (xs ys : List A) → Distinct (xs ++ ys) → Distinct ys
-  distinct_right [] ys h = h
-  distinct_right (z ∷ zs) ys h = distinct_right zs ys h.1
-
-  pub distinct_apart : (xs ys : List A) → Distinct (xs ++ ys) → (x : A) → In x xs → In x ys → ⊥
-  distinct_apart [] ys h x m n = absurd m
-  distinct_apart (z ∷ zs) ys h x (inl e) n = h.0 (in_right z zs ys (subst (λ w. In w ys) (sym e) n))
-  distinct_apart (z ∷ zs) ys h x (inr m) n = distinct_apart zs ys h.1 x m n
-
-  pub distinct_filter : (p : A → Bool) (xs : List A) → Distinct xs → Distinct (filter p xs)
-  distinct_filter p [] h = tt
-  distinct_filter p (z ∷ zs) h = by (distinct_filter p zs h.1) (p z)
-    where
-      by : Distinct (filter p zs) → (b : Bool) → Distinct (cond b (z ∷ filter p zs) (filter p zs))
-      by rest true = (λ m. let r = in_filter p zs z m in h.0 r.0, rest)
-      by rest false = rest
 
   -- a member has one place
   pub distinct_place : (xs : List A) → Distinct xs → (i j : ℕ) (x : A) → slice_get xs i ≡ Some x → slice_get xs j ≡ Some x → i ≡ j

@@ -1,7 +1,7 @@
 -- What stands in a list, and what holds of each member.
 use Rattle.std.proofs.Common.{◌≡◌, ◌⊎◌, List, [], ◌∷◌, ◌++◌, map, Bool, true, false, cond, inl, inr, refl, sym, ap, ◌∙◌, subst}
 use Rattle.std.specs.List.{list_any, list_all, filter}
-use Rattle.std.proofs.lemmas.Bool.{and_parts, or_cases, or_left, or_right}
+use Rattle.std.proofs.lemmas.Bool.{and_parts, or_cases}
 use Rattle.list_facts.specs.Lists.{In, Each}
 
 module _ {A : Type 0} where
@@ -31,10 +31,6 @@ module _ {A : Type 0} where
   each_left P [] ys h = tt
   each_left P (z ∷ zs) ys h = (h.0, each_left P zs ys h.1)
 
-  pub each_right : (P : A → Type 0) (xs ys : List A) → Each P (xs ++ ys) → Each P ys
-  each_right P [] ys h = h
-  each_right P (z ∷ zs) ys h = each_right P zs ys h.1
-
   pub each_append : (P : A → Type 0) (xs ys : List A) → Each P xs → Each P ys → Each P (xs ++ ys)
   each_append P [] ys h k = k
   each_append P (z ∷ zs) ys h k = (h.0, each_append P zs ys h.1 k)
@@ -59,11 +55,6 @@ module _ {A : Type 0} where
     | inl one ↦ (z, inl refl, one)
     | inr later ↦ let k = in_passes p zs later in (k.0, inr k.1, k.2)
   ]
-
-  pub passes_in : (p : A → Bool) (xs : List A) (x : A) → In x xs → p x ≡ true → list_any p xs ≡ true
-  passes_in p [] x m h = absurd m
-  passes_in p (z ∷ zs) x (inl e) h = or_left (p z) (list_any p zs) (ap p e ∙ h)
-  passes_in p (z ∷ zs) x (inr k) h = or_right (p z) (list_any p zs) (passes_in p zs x k h)
 
   -- a test that computes whether all pass
   pub all_pass : (p : A → Bool) (xs : List A) → list_all p xs ≡ true → (x : A) → In x xs → p x ≡ true
@@ -105,7 +96,3 @@ module _ {A B : Type 0} (f : A → B) where
   pub each_map : (P : B → Type 0) (xs : List A) → Each (λ x. P (f x)) xs → Each P (map f xs)
   each_map P [] h = tt
   each_map P (z ∷ zs) h = (h.0, each_map P zs h.1)
-
-  pub each_mapped : (P : B → Type 0) (xs : List A) → Each P (map f xs) → Each (λ x. P (f x)) xs
-  each_mapped P [] h = tt
-  each_mapped P (z ∷ zs) h = (h.0, each_mapped P zs h.1)

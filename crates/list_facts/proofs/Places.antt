@@ -1,7 +1,7 @@
 -- Members by their places.
 use Rattle.std.proofs.lemmas.Bool.{cond-false, le-ltb}
 use Rattle.std.specs.List.{position, position_or_len}
-use Rattle.std.proofs.Common.{◌≡◌, ℕ, zero, suc, ◌+◌, ◌<◌, Some, List, [], ◌∷◌, ◌++◌, length, slice_get, inl, inr, refl, ap, arith, ◌≢◌, ◌⊎◌, Bool, false, ltb, None}
+use Rattle.std.proofs.Common.{◌≡◌, ℕ, zero, suc, ◌<◌, Some, List, [], ◌∷◌, ◌++◌, length, slice_get, inl, inr, refl, ap, arith, ◌≢◌, ◌⊎◌, Bool, false, ltb, None}
 use Rattle.std.specs.Prelude.{slice_set}
 use Rattle.list_facts.specs.Lists.{In, Each}
 use Rattle.list_facts.proofs.Members.{each_in}
@@ -20,12 +20,6 @@ module _ {A : Type 0} where
   pub each_at : (P : A → Type 0) (xs : List A) → Each P xs → (i : ℕ) (x : A) → slice_get xs i ≡ Some x → P x
   each_at P xs h i x e = each_in P xs h x (in_at xs i x e)
 
-  -- a place has a member exactly where it is below the length
-  pub at_below : (xs : List A) (i : ℕ) (x : A) → slice_get xs i ≡ Some x → i < length xs
-  at_below [] i x h = cc
-  at_below (z ∷ zs) zero x h = omega arith
-  at_below (z ∷ zs) (suc i) x h = let k = at_below zs i x h in omega arith
-
   pub below_at : (xs : List A) (i : ℕ) → i < length xs → (x : A) × (slice_get xs i ≡ Some x)
   below_at [] i lt = absurd (omega arith)
   below_at (z ∷ zs) zero lt = (z, refl)
@@ -36,10 +30,6 @@ module _ {A : Type 0} where
   at_left [] ys i x h = cc
   at_left (z ∷ zs) ys zero x h = h
   at_left (z ∷ zs) ys (suc i) x h = at_left zs ys i x h
-
-  pub at_right : (xs ys : List A) (i : ℕ) (x : A) → slice_get ys i ≡ Some x → slice_get (xs ++ ys) (length xs + i) ≡ Some x
-  at_right [] ys i x h = let e : 0 + i ≡ i = omega arith in rw e h
-  at_right (z ∷ zs) ys i x h = let e : length (z ∷ zs) + i ≡ suc (length zs + i) = omega arith in rw e (at_right zs ys i x h)
 
   -- the member at a place of a list with another member at one place
   pub at_set_cases : (xs : List A) (i : ℕ) (y : A) (j : ℕ) (x : A) → slice_get (slice_set xs i y) j ≡ Some x → ((j ≡ i) × (x ≡ y)) ⊎ ((j ≢ i) × (slice_get xs j ≡ Some x))

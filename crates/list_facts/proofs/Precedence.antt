@@ -1,7 +1,7 @@
 -- Before, as a relation on lists and as an order of places.
-use Rattle.std.proofs.Common.{◌≡◌, ◌⊎◌, ℕ, zero, suc, ◌<◌, Some, List, [], ◌∷◌, ◌++◌, map, slice_get, inl, inr, ap, arith}
+use Rattle.std.proofs.Common.{◌≡◌, ◌⊎◌, ℕ, zero, suc, ◌<◌, Some, List, [], ◌∷◌, ◌++◌, slice_get, inl, inr, ap, arith}
 use Rattle.list_facts.specs.Lists.{In, Precedes}
-use Rattle.list_facts.proofs.Members.{in_left, in_right, in_cases, in_map}
+use Rattle.list_facts.proofs.Members.{in_left, in_right, in_cases}
 use Rattle.list_facts.proofs.Places.{in_at, at_in}
 
 -- two places of a list, the first of which comes first
@@ -33,10 +33,6 @@ module _ {A : Type 0} where
   precedes_left x y (z ∷ zs) ys (inl h) = inl (h.0, in_left y zs ys h.1)
   precedes_left x y (z ∷ zs) ys (inr h) = inr (precedes_left x y zs ys h)
 
-  pub precedes_right : (x y : A) (xs ys : List A) → Precedes x y ys → Precedes x y (xs ++ ys)
-  precedes_right x y [] ys h = h
-  precedes_right x y (z ∷ zs) ys h = inr (precedes_right x y zs ys h)
-
   -- the first in the one list and the second in the list behind it
   pub precedes_across : (x y : A) (xs ys : List A) → In x xs → In y ys → Precedes x y (xs ++ ys)
   precedes_across x y [] ys h k = absurd h
@@ -65,13 +61,3 @@ module _ {A : Type 0} where
   precedes_first x y [] h = absurd h
   precedes_first x y (z ∷ zs) (inl h) = inl h.0
   precedes_first x y (z ∷ zs) (inr h) = inr (precedes_first x y zs h)
-
-  pub precedes_second : (x y : A) (xs : List A) → Precedes x y xs → In y xs
-  precedes_second x y [] h = absurd h
-  precedes_second x y (z ∷ zs) (inl h) = inr h.1
-  precedes_second x y (z ∷ zs) (inr h) = inr (precedes_second x y zs h)
-
-pub precedes_map : {A B : Type 0} (f : A → B) (x y : A) (xs : List A) → Precedes x y xs → Precedes (f x) (f y) (map f xs)
-precedes_map f x y [] h = absurd h
-precedes_map f x y (z ∷ zs) (inl h) = inl (ap f h.0, in_map f y zs h.1)
-precedes_map f x y (z ∷ zs) (inr h) = inr (precedes_map f x y zs h)
