@@ -5,13 +5,13 @@ use Rattle.std.proofs.lemmas.Bool.{eqb-true}
 use Rattle.list_facts.specs.Lists.{In, Each}
 use Rattle.list_facts.proofs.Members.{each_append, in_passes}
 use Rattle.log_safety.specs.Built.{IsBuilt}
-use Rattle.log_safety.proofs.Facts.{ItemFacts}
-use Rattle.log_safety.proofs.Parts.{Ghost}
-use Rattle.log_safety.proofs.Worlds.{Holds}
-use Rattle.log_safety.proofs.Beginning.{holds_first}
-use Rattle.log_safety.proofs.Runs.{run_append, run_kept}
-use Rattle.log_safety.proofs.Counts.{event_counts}
-use Rattle.log_safety.proofs.HolderLines.{holder_member, holder_lawful, told_is, is_here, facts, item_is, s as seq_held}
+use Rattle.log_safety.proofs.facts.Seq.{ItemFacts}
+use Rattle.log_safety.proofs.facts.Parts.{Ghost}
+use Rattle.log_safety.proofs.worlds.Holds.{Holds}
+use Rattle.log_safety.proofs.worlds.First.{holds_first}
+use Rattle.log_safety.proofs.worlds.Runs.{run_append, run_kept}
+use Rattle.log_safety.proofs.worlds.EventCount.{event_counts}
+use Rattle.log_safety.proofs.lines.Holders.{holder_member, holder_lawful, told_is, is_here, facts, item_is, s as seq_held}
 use Rattle.rec_id.specs.Lawful.{Lawful}
 use Rattle.rec_id.specs.declared.entry.Entry.{Entry}
 use Rattle.rec_id.specs.declared.entry.Entry.TheVariants.{Kept}

@@ -4,7 +4,7 @@ use Rattle.std.specs.Prelude.{slice_set, remove}
 use Rattle.list_facts.specs.Lists.{In}
 use Rattle.list_facts.proofs.Changes.{remove_none}
 use Rattle.list_facts.proofs.Places.{in_at}
-use Rattle.log_safety.proofs.Facts.{Rises}
+use Rattle.log_safety.proofs.facts.Client.{Rises}
 use Rattle.lazy_rules.specs.ClientState.{OpenAppend, lowest}
 
 pub rises_weaker : (n m : ℕ) (appends : List OpenAppend) → m ≤ n → Rises n appends → Rises m appends

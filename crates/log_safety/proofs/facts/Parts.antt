@@ -32,7 +32,7 @@ abbrev pub line_ids : Ghost → SeqState → List Identity
 line_ids g s = take s.bound g.line ++ ids_of s.pending
 
 -- an append of this identity ended
-pub record Finished (history : List Event) (id : Identity) : Type 0 where
+pub record HasEnded (history : List Event) (id : Identity) : Type 0 where
   pub event : Event
   pub ends : finished_id event ≡ Some id
   pub stands : In event history

@@ -1,10 +1,8 @@
--- What each message says of the world, from when it is sent on; and what no step takes back, by which it
--- goes on saying so.
-use Rattle.std.proofs.Common.{◌≡◌, ℕ, ◌+◌, ◌<◌, List, Some, Option, sym, ◌∙◌}
-use Rattle.list_facts.specs.Lists.{In, Front}
-use Rattle.list_facts.proofs.Fronts.{front_in}
-use Rattle.log_safety.proofs.Parts.{Ghost, Parts, Finished, line_ids}
-use Rattle.log_safety.proofs.Facts.{AckSays}
+-- What each message says of the world, from when it is sent on.
+use Rattle.std.proofs.Common.{◌≡◌, ℕ, ◌+◌, ◌<◌, List, Some, Option}
+use Rattle.list_facts.specs.Lists.{In}
+use Rattle.log_safety.proofs.facts.Parts.{Ghost, Parts}
+use Rattle.log_safety.proofs.facts.Seq.{AckSays}
 use Rattle.rec_id.specs.Identity.{Identity}
 use Rattle.rec_id.specs.declared.event.Event.TheVariants.{Invoke}
 use Rattle.view_config.specs.declared.edition.Mode.TheVariants.{M}
@@ -24,47 +22,12 @@ pub record AppendSays (shape : Dimensions) (a : Parts) (to : ℕ) (id : Identity
   pub begun : In (Invoke id own) a.history
 
 -- a member's acknowledgement goes to the client of the record
-pub record AckGoes (shape : Dimensions) (g : Ghost) (a : Parts) (from to view : ℕ) (id : Identity) : Type 0 where
+pub record AckGoes (shape : Dimensions) (g : Ghost) (a : Parts) (sender to view : ℕ) (id : Identity) : Type 0 where
   pub to_client : to ≡ id.client
   pub there : to < shape.clients
-  pub says : AckSays shape g a from view id
+  pub says : AckSays shape g a sender view id
 
 abbrev pub Said : Dimensions → Ghost → Parts → ℕ → ℕ → Msg → Type 0
-Said shape g a from to (Append view id bytes) = AppendSays shape a to id bytes
-Said shape g a from to (AppendAck view id) = AckGoes shape g a from to view id
-Said shape g a from to _ = ⊥
-
--- what no step takes back
-pub record Moves (g : Ghost) (a : Parts) (h : Ghost) (b : Parts) : Type 0 where
-  pub history : Front a.history b.history
-  pub views : (i : ℕ) → (b.seqs i).view ≡ (a.seqs i).view
-  pub lines : (i : ℕ) (id : Identity) → In id (line_ids g (a.seqs i)) → In id (line_ids h (b.seqs i))
-
-module _ (shape : Dimensions) (g : Ghost) (a : Parts) (h : Ghost) (b : Parts) (moves : Moves g a h b) where
-  pub ack_moves : (node view : ℕ) (id : Identity) → AckSays shape g a node view id → AckSays shape h b node view id
-  ack_moves node view id says = record {
-    index = says.index;
-    is_node = says.is_node;
-    member = says.member;
-    stands = λ same. moves.lines says.index id (says.stands (sym (moves.views says.index) ∙ same));
-  }
-
-  pub finished_moves : (id : Identity) → Finished a.history id → Finished b.history id
-  finished_moves id f = record { event = f.event; ends = f.ends; stands = front_in a.history b.history moves.history f.event f.stands }
-
-  pub said_moves : (from to : ℕ) (msg : Msg) → Said shape g a from to msg → Said shape h b from to msg
-  said_moves from to (Append view id bytes) says = record {
-    index = says.index;
-    is_node = says.is_node;
-    there = says.there;
-    own = says.own;
-    whole = says.whole;
-    has = says.has;
-    begun = front_in a.history b.history moves.history (Invoke id says.own) says.begun;
-  }
-  said_moves from to (AppendAck view id) says = record {
-    to_client = says.to_client;
-    there = says.there;
-    says = ack_moves from view id says.says;
-  }
-  said_moves from to _ says = absurd says
+Said shape g a sender to (Append view id bytes) = AppendSays shape a to id bytes
+Said shape g a sender to (AppendAck view id) = AckGoes shape g a sender to view id
+Said shape g a sender to _ = ⊥

@@ -1,13 +1,12 @@
--- One mark more in a window.
+-- A replica's window with one mark more.
 use Rattle.std.proofs.Common.{◌≡◌, ◌⊎◌, ℕ, ◌+◌, ◌≤◌, List, max, Bool, true, ◌||◌, ◌&&◌, eqb, leb, Some, inl, inr, refl, sym, ap, ◌∙◌}
 use Rattle.std.specs.Prelude.{◌*◌, slice_get}
 use Rattle.std.proofs.lemmas.Bool.{and_parts, or_cases, or_left, or_right, eqb-true, eq-eqb, leb-true}
 use Rattle.std.proofs.lemmas.Option.{get_or_from_slice_get}
 use Rattle.list_facts.proofs.Places.{at_set_cases}
-use Rattle.rec_id.specs.Identity.{Identity}
+use Rattle.rec_id.specs.Identity.{Identity, same_id}
 use Rattle.rec_id.specs.Marks.{span_of, mark, no_marks}
 use Rattle.rec_id.specs.declared.marks.Marks.{Marks}
-use Rattle.rec_id.specs.Identity.{same_id}
 use Rattle.lazy_rules.specs.Windows.{has_seen, marked_in, marks_of}
 use Rattle.lazy_rules.proofs.SeenAfter.{seen_one_more, length-mark}
 

@@ -1,4 +1,4 @@
--- What holds of a world makes the line of each holder lawful.
+-- What is shown of a line makes it lawful, clause by clause.
 use Rattle.std.proofs.Common.{◌≡◌, ◌≢◌, ℕ, ◌<◌, List, map, Option, Some, inl, inr, refl, ap, arith}
 use Rattle.std.specs.Prelude.{slice_get}
 use Rattle.std.proofs.lemmas.Bool.{cases_lt}
@@ -9,8 +9,8 @@ use Rattle.list_facts.proofs.Precedence.{precedes_at, at_precedes}
 use Rattle.list_facts.proofs.Distinctness.{distinct_place}
 use Rattle.law_cases.proofs.ToldAt.{told_cases, told_from}
 use Rattle.law_cases.proofs.Consequences.{id_listed, precedence_from}
-use Rattle.log_safety.proofs.Parts.{Finished}
-use Rattle.log_safety.proofs.Facts.{IsOfAppend, HistoryFacts}
+use Rattle.log_safety.proofs.facts.Parts.{HasEnded}
+use Rattle.log_safety.proofs.facts.History.{IsOfAppend, HistoryFacts}
 use Rattle.rec_id.specs.Identity.{Identity}
 use Rattle.rec_id.specs.History.{Read, finished_id, invoked_id, forced_tail, told_reach, told_at}
 use Rattle.rec_id.specs.Line.{named_id, appended_id}
@@ -30,7 +30,7 @@ EntryFacts history _ = ⊥
 pub record LineFacts (history : List Event) (line : List Entry) : Type 0 where
   pub entries : Each (EntryFacts history) line
   pub distinct : Distinct (map named_id line)
-  pub ended : (id : Identity) → Finished history id → In id (map named_id line)
+  pub ended : (id : Identity) → HasEnded history id → In id (map named_id line)
   pub ordered : (p q : Identity) (x y : Event) → finished_id x ≡ Some p → invoked_id y ≡ Some q → Precedes x y history → In q (map named_id line) → Precedes p q (map named_id line)
 
 module _ (shape : Dimensions) (history : List Event) (line : List Entry) (facts : HistoryFacts shape history) (shows : LineFacts history line) where

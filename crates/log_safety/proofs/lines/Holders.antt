@@ -10,13 +10,13 @@ use Rattle.list_facts.proofs.Members.{in_filter, in_mapped, each_map, each_weake
 use Rattle.list_facts.proofs.Places.{below_at, position_none}
 use Rattle.list_facts.proofs.Ranges.{in_range_below}
 use Rattle.log_safety.specs.Built.{IsBuilt}
-use Rattle.log_safety.proofs.Parts.{Ghost, parts_of, line_ids}
-use Rattle.log_safety.proofs.Facts.{MemberFacts, ItemFacts}
-use Rattle.log_safety.proofs.Lawfulness.{EntryFacts, lawful}
-use Rattle.log_safety.proofs.Nodes.{seq_node_of}
-use Rattle.log_safety.proofs.Worlds.{Holds}
-use Rattle.log_safety.proofs.Beginning.{holds_first}
-use Rattle.log_safety.proofs.Runs.{run_kept}
+use Rattle.log_safety.proofs.facts.Parts.{Ghost, parts_of, line_ids}
+use Rattle.log_safety.proofs.facts.Seq.{MemberFacts, ItemFacts}
+use Rattle.log_safety.proofs.lines.Clauses.{EntryFacts, lawful}
+use Rattle.log_safety.proofs.worlds.Delivery.{seq_node_of}
+use Rattle.log_safety.proofs.worlds.Holds.{Holds}
+use Rattle.log_safety.proofs.worlds.First.{holds_first}
+use Rattle.log_safety.proofs.worlds.Runs.{run_kept}
 use Rattle.rec_id.specs.Identity.{Identity}
 use Rattle.rec_id.specs.Line.{named_id}
 use Rattle.rec_id.specs.Lawful.{Lawful}

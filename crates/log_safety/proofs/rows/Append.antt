@@ -11,12 +11,15 @@ use Rattle.list_facts.proofs.Places.{below_at}
 use Rattle.list_facts.proofs.Precedence.{precedes_left, precedes_across, precedes_first}
 use Rattle.list_facts.proofs.Distinctness.{distinct_more}
 use Rattle.list_facts.proofs.Puts.{put_own, put_cases, put_same}
-use Rattle.log_safety.proofs.Parts.{Ghost, Parts, Finished, line_ids}
-use Rattle.log_safety.proofs.Facts.{Agreed, SeqFacts, MemberFacts, ItemFacts}
-use Rattle.log_safety.proofs.Said.{Said, AppendSays, Moves}
-use Rattle.log_safety.proofs.Frames.{with_seq, client_beside_seq, member_beside_seq}
-use Rattle.log_safety.proofs.Marking.{seen_cases, seen_still, seen_now, marks_cases, width-mark}
-use Rattle.log_safety.proofs.Clients.{stale_id_ended}
+use Rattle.log_safety.proofs.facts.Parts.{Ghost, Parts, HasEnded, line_ids}
+use Rattle.log_safety.proofs.facts.Agreed.{Agreed}
+use Rattle.log_safety.proofs.facts.Seq.{SeqFacts, MemberFacts, ItemFacts}
+use Rattle.log_safety.proofs.facts.Said.{Said, AppendSays}
+use Rattle.log_safety.proofs.facts.Moves.{Moves}
+use Rattle.log_safety.proofs.rows.Good.{with_seq, GoodSeq}
+use Rattle.log_safety.proofs.rows.SeqStep.{client_beside_seq, member_beside_seq}
+use Rattle.log_safety.proofs.facts.Windows.{seen_cases, seen_still, seen_now, marks_cases, width-mark}
+use Rattle.log_safety.proofs.facts.EndedNumbers.{stale_id_ended}
 use Rattle.rec_id.specs.Identity.{Identity}
 use Rattle.rec_id.specs.Marks.{span_of, mark}
 use Rattle.rec_id.specs.declared.event.Event.TheVariants.{Invoke}
@@ -27,19 +30,11 @@ use Rattle.view_config.specs.Nodes.{seq_id}
 use Rattle.view_config.specs.Shape.{Dimensions}
 use Rattle.lazy_msgs.specs.declared.msg.Msg.{Msg}
 use Rattle.lazy_msgs.specs.declared.msg.Msg.TheVariants.{AppendAck}
-use Rattle.lazy_msgs.specs.Step.{Row}
 use Rattle.lazy_rules.specs.Ids.{ids_of}
 use Rattle.lazy_rules.specs.Rows.{stays, answers}
 use Rattle.lazy_rules.specs.SeqState.{SeqState}
 use Rattle.lazy_rules.specs.SeqRules.{is_active, with_item, on_append}
 use Rattle.lazy_rules.specs.Windows.{has_seen, marks_of}
-
--- a row of sequencing replica i that keeps all, and whose messages say what they should. It tells nothing
-pub record GoodSeq (shape : Dimensions) (g : Ghost) (a : Parts) (i : ℕ) (row : Row SeqState) : Type 0 where
-  pub agreed : Agreed shape g (with_seq a i row.next)
-  pub moves : Moves g a g (with_seq a i row.next)
-  pub said : Each (λ send. Said shape g (with_seq a i row.next) (seq_id i) send.0 send.1) row.sends
-  pub silent : row.events ≡ []
 
 module _ (shape : Dimensions) (g : Ghost) (a : Parts) (i : ℕ) (inside : i < shape.seq + shape.spares) (agreed : Agreed shape g a) where
   abbrev s : SeqState
@@ -132,7 +127,7 @@ module _ (shape : Dimensions) (g : Ghost) (a : Parts) (i : ℕ) (inside : i < sh
       ]
 
       -- what is a whole window below them has ended
-      stale : (other : Identity) → 1 ≤ other.number → (other.client ≡ id.client) × (other.number + span_of marks.0 ≤ max marks.0.top id.number) → Finished a.history other
+      stale : (other : Identity) → 1 ≤ other.number → (other.client ≡ id.client) × (other.number + span_of marks.0 ≤ max marks.0.top id.number) → HasEnded a.history other
       stale other some h =
           let width : span_of marks.0 ≡ window_of shape.edition = (agreed.seqs i inside).widths id.client marks.0 marks.1 in
           let top = facts.tops id.client marks.0 marks.1 in

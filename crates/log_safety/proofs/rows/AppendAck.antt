@@ -12,13 +12,16 @@ use Rattle.list_facts.proofs.Members.{in_last, in_more, in_each, in_map, in_pass
 use Rattle.list_facts.proofs.Places.{each_at}
 use Rattle.list_facts.proofs.Puts.{put_cases, put_same}
 use Rattle.list_facts.proofs.Ranges.{below_in_range}
-use Rattle.log_safety.proofs.Parts.{Ghost, Parts, Finished, line_ids}
-use Rattle.log_safety.proofs.Facts.{Agreed, AckSays, OpenFacts, ClientFacts, MemberFacts}
+use Rattle.log_safety.proofs.facts.Parts.{Ghost, Parts, HasEnded, line_ids}
+use Rattle.log_safety.proofs.facts.Agreed.{Agreed}
+use Rattle.log_safety.proofs.facts.Seq.{AckSays, MemberFacts}
+use Rattle.log_safety.proofs.facts.Client.{OpenFacts, ClientFacts}
 use Rattle.list_facts.proofs.Fronts.{front_same}
-use Rattle.log_safety.proofs.Said.{Moves, ack_moves, finished_moves}
-use Rattle.log_safety.proofs.Opens.{rises_set, lowest_set, rises_remove, lowest_remove, rises_apart}
-use Rattle.log_safety.proofs.Telling.{with_client, client_moves, open_still, client_beside_client, member_beside_client, history_ended}
-use Rattle.log_safety.proofs.PostRow.{GoodClient}
+use Rattle.log_safety.proofs.facts.Moves.{Moves, ack_moves, ended_moves}
+use Rattle.log_safety.proofs.facts.OpenAppends.{rises_set, lowest_set, rises_remove, lowest_remove, rises_apart}
+use Rattle.log_safety.proofs.rows.Good.{with_client, GoodClient}
+use Rattle.log_safety.proofs.rows.ClientStep.{client_moves, open_still, client_beside_client, member_beside_client}
+use Rattle.log_safety.proofs.facts.History.{history_ended}
 use Rattle.rec_id.specs.Identity.{Identity}
 use Rattle.rec_id.specs.History.{finished_id, invoked_id}
 use Rattle.rec_id.specs.declared.event.Event.{Event}
@@ -133,7 +136,7 @@ module _ (shape : Dimensions) (g : Ghost) (a : Parts) (c : ℕ) (there : c < sha
                 let number : append.number ≡ n = ap (λ (x : OpenAppend). x.number) same ∙ open_one.numbered in
                 inr (record { event = Acked id; ends = ap (λ (m : ℕ). Some (id_of k m)) number; stands = in_last (Acked id) a.history })
           ]
-          | inr ended ↦ inr (finished_moves shape g a g b moved (id_of k n) ended)
+          | inr ended ↦ inr (ended_moves shape g a g b moved (id_of k n) ended)
         ];
       }
 
@@ -159,7 +162,7 @@ module _ (shape : Dimensions) (g : Ghost) (a : Parts) (c : ℕ) (there : c < sha
     open_same x y other ids configs nexts h = record {
       below = subst (λ (n : ℕ). other.number < n) nexts h.below;
       begun = subst (λ (z : Identity). In (Invoke z other.bytes) a.history) ids h.begun;
-      not_ended = subst (λ (z : Identity). Finished a.history z → ⊥) ids h.not_ended;
+      not_ended = subst (λ (z : Identity). HasEnded a.history z → ⊥) ids h.not_ended;
       noted = subst (λ (z : Identity). Each (λ node. AckSays shape g b_noted node y.config.view z) other.acked) ids
           (subst (λ (z : Config). Each (λ node. AckSays shape g b_noted node z.view (id_of x other.number)) other.acked) configs
           (each_weaker (λ node. AckSays shape g a node x.config.view (id_of x other.number)) (λ node. AckSays shape g b_noted node x.config.view (id_of x other.number)) (λ node w. ack_moves shape g a g b_noted noted_moves node x.config.view (id_of x other.number) w) other.acked h.noted));

@@ -1,12 +1,13 @@
--- One event more in the history: what it leaves as it is.
-use Rattle.std.proofs.Common.{◌≡◌, ◌≢◌, ◌⊎◌, ℕ, ◌<◌, ◌≤◌, List, [], ◌∷◌, ◌++◌, Some, None, inl, inr, refl, sym, ap, ◌∙◌, subst, arith}
-use Rattle.list_facts.specs.Lists.{In, Precedes, put}
+-- A step of a client that tells one event: what it leaves as it is.
+use Rattle.std.proofs.Common.{◌≡◌, ◌≢◌, ℕ, ◌≤◌, List, [], ◌∷◌, Some, inl, inr, refl, sym, ap, ◌∙◌, subst, arith}
+use Rattle.list_facts.specs.Lists.{In}
 use Rattle.list_facts.proofs.Fronts.{front_append}
-use Rattle.list_facts.proofs.Members.{in_left, in_more, each_append, each_weaker}
-use Rattle.list_facts.proofs.Precedence.{precedes_left, precedes_across, precedes_more}
-use Rattle.log_safety.proofs.Parts.{Ghost, Parts, Finished, line_ids}
-use Rattle.log_safety.proofs.Facts.{IsOfAppend, HistoryFacts, OpenFacts, ClientFacts, MemberFacts, ItemFacts, AckSays}
-use Rattle.log_safety.proofs.Said.{Moves, ack_moves, finished_moves}
+use Rattle.list_facts.proofs.Members.{in_left, in_more, each_weaker}
+use Rattle.list_facts.proofs.Precedence.{precedes_more}
+use Rattle.log_safety.proofs.facts.Parts.{Ghost, Parts, line_ids}
+use Rattle.log_safety.proofs.facts.Client.{OpenFacts, ClientFacts}
+use Rattle.log_safety.proofs.facts.Seq.{MemberFacts, ItemFacts, AckSays}
+use Rattle.log_safety.proofs.facts.Moves.{Moves, ack_moves, ended_moves}
 use Rattle.rec_id.specs.Identity.{Identity}
 use Rattle.rec_id.specs.History.{finished_id, invoked_id}
 use Rattle.rec_id.specs.declared.event.Event.{Event}
@@ -14,10 +15,8 @@ use Rattle.rec_id.specs.declared.event.Event.TheVariants.{Invoke, Acked}
 use Rattle.view_config.specs.Shape.{Dimensions}
 use Rattle.lazy_rules.specs.ClientState.{ClientState, OpenAppend, id_of}
 use Rattle.lazy_rules.specs.SeqState.{SeqState}
-
--- the parts after a step of client c that told these events
-abbrev pub with_client : Parts → ℕ → ClientState → List Event → Parts
-with_client a c k told = record a { history = a.history ++ told; clients = put a.clients c k }
+use Rattle.log_safety.proofs.facts.History.{ended_cases}
+use Rattle.log_safety.proofs.rows.Good.{with_client}
 
 pub client_moves : (g : Ghost) (a : Parts) (c : ℕ) (k : ClientState) (told : List Event) → Moves g a g (with_client a c k told)
 client_moves g a c k told = record { history = front_append a.history told; views = λ i. refl; lines = λ i id h. h }
@@ -36,13 +35,6 @@ ended_by c (Invoke other bytes) id h ends = cc
 ended_by c (Acked other) id h ends = let is : other ≡ id = cc in sym (ap (λ (x : Identity). x.client) is) ∙ h
 ended_by c _ id h ends = absurd h
 
--- what has ended then had ended before, or ends with this event
-pub finished_cases : (history : List Event) (e : Event) (id : Identity) → Finished (history ++ e ∷ []) id → Finished history id ⊎ (finished_id e ≡ Some id)
-finished_cases history e id f = elim (in_more f.event e history f.stands) [
-  | inl before ↦ inl (record { event = f.event; ends = f.ends; stands = before })
-  | inr same ↦ inr (ap finished_id same ∙ f.ends)
-]
-
 module _ (shape : Dimensions) (g : Ghost) (a : Parts) (c : ℕ) (k_now : ClientState) (e : Event) (of_client : IsOfClient c e) where
   abbrev b : Parts
   b = with_client a c k_now (e ∷ [])
@@ -55,7 +47,7 @@ module _ (shape : Dimensions) (g : Ghost) (a : Parts) (c : ℕ) (k_now : ClientS
   open_still k append other facts = record {
     below = facts.below;
     begun = in_left (Invoke (id_of k append.number) append.bytes) a.history (e ∷ []) facts.begun;
-    not_ended = λ f. elim (finished_cases a.history e (id_of k append.number) f) [ inl before ↦ absurd (facts.not_ended before) | inr now ↦ absurd (other now) ];
+    not_ended = λ f. elim (ended_cases a.history e (id_of k append.number) f) [ inl before ↦ absurd (facts.not_ended before) | inr now ↦ absurd (other now) ];
     noted = each_weaker (λ node. AckSays shape g a node k.config.view (id_of k append.number)) (λ node. AckSays shape g b node k.config.view (id_of k append.number)) (λ node says. ack_moves shape g a g b moved node k.config.view (id_of k append.number) says) append.acked facts.noted;
   }
 
@@ -75,7 +67,7 @@ module _ (shape : Dimensions) (g : Ghost) (a : Parts) (c : ℕ) (k_now : ClientS
     opened = each_weaker (OpenFacts shape g a k) (OpenFacts shape g b k) (λ append h. open_still k append (λ ends. apart (sym facts.named ∙ ended_by c e (id_of k append.number) of_client ends)) h) k.unfinished facts.opened;
     closed = λ n some below. elim (facts.closed n some below) [
       | inl open_one ↦ inl open_one
-      | inr ended ↦ inr (finished_moves shape g a g b moved (id_of k n) ended)
+      | inr ended ↦ inr (ended_moves shape g a g b moved (id_of k n) ended)
     ];
   }
 
@@ -89,66 +81,9 @@ module _ (shape : Dimensions) (g : Ghost) (a : Parts) (c : ℕ) (k_now : ClientS
       tops = λ d marks h. let top = facts.tops d marks h in let next = rises d in omega arith;
       begun = λ id h. let k = facts.begun id h in (k.0, in_left (Invoke id k.0) a.history (e ∷ []) k.1);
       items = each_weaker (ItemFacts shape a.history) (ItemFacts shape b.history) (λ item h. record { whole = h.whole; bytes = h.bytes; has = h.has; begun = in_left (Invoke item.id h.bytes) a.history (e ∷ []) h.begun }) s.pending facts.items;
-      ended = λ id f. elim (finished_cases a.history e id f) [ inl before ↦ facts.ended id before | inr now ↦ has_ended id now ];
+      ended = λ id f. elim (ended_cases a.history e id f) [ inl before ↦ facts.ended id before | inr now ↦ has_ended id now ];
       ordered = λ p q x y f h before q_in. elim (precedes_more x y e a.history before) [
         | inl earlier ↦ facts.ordered p q x y f h earlier q_in
         | inr last ↦ absurd (fresh q (ap invoked_id last.1 ∙ h) q_in)
       ];
     }
-
--- an event that begins an append is its Invoke
-begun_there : (other : Identity) (x : Event) (history : List Event) → invoked_id x ≡ Some other → In x history → ((bytes : List ℕ) → ¬ In (Invoke other bytes) history) → ⊥
-begun_there other (Invoke id bytes) history f m none =
-    let same : id ≡ other = let both : Some id ≡ Some other = f in cc in
-    none bytes (subst (λ (z : Identity). In (Invoke z bytes) history) same m)
-begun_there other _ history f m none = let wrong : None ≡ Some other = f in cc
-
--- the history with an append begun that was not begun before
-pub history_begun : (shape : Dimensions) (history : List Event) (id : Identity) (bytes : List ℕ) → id.client < shape.clients → ((other : List ℕ) → ¬ In (Invoke id other) history) → HistoryFacts shape history → HistoryFacts shape (history ++ Invoke id bytes ∷ [])
-history_begun shape history id bytes there new facts = record {
-  appends = each_append IsOfAppend history (Invoke id bytes ∷ []) facts.appends (tt, tt);
-  in_range = λ other others h. elim (in_more (Invoke other others) (Invoke id bytes) history h) [
-    | inl before ↦ facts.in_range other others before
-    | inr now ↦ let is : id ≡ other = cc in subst (λ (x : Identity). x.client < shape.clients) is there
-  ];
-  begun_once = λ other x y f h twice. elim (precedes_more x y (Invoke id bytes) history twice) [
-    | inl before ↦ absurd (facts.begun_once other x y f h before)
-    | inr last ↦
-        let is : id ≡ other = let both : Some id ≡ Some other = ap invoked_id last.1 ∙ h in cc in
-        absurd (begun_there other x history f last.0 (λ others. subst (λ (z : Identity). In (Invoke z others) history → ⊥) is (new others)))
-  ];
-  begun_before = λ other y f h. elim (in_more y (Invoke id bytes) history h) [
-    | inl before ↦ let k = facts.begun_before other y f before in (k.0, precedes_left (Invoke other k.0) y history (Invoke id bytes ∷ []) k.1)
-    | inr now ↦ let wrong : None ≡ Some other = ap finished_id now ∙ f in cc
-  ];
-  ended_once = λ other x y f h twice. elim (precedes_more x y (Invoke id bytes) history twice) [
-    | inl before ↦ absurd (facts.ended_once other x y f h before)
-    | inr last ↦ let wrong : None ≡ Some other = ap finished_id last.1 ∙ h in cc
-  ];
-}
-
--- the history with an append ended that was begun and hadn't ended
-pub history_ended : (shape : Dimensions) (history : List Event) (id : Identity) (bytes : List ℕ) → In (Invoke id bytes) history → ¬ Finished history id → HistoryFacts shape history → HistoryFacts shape (history ++ Acked id ∷ [])
-history_ended shape history id bytes begun unended facts = record {
-  appends = each_append IsOfAppend history (Acked id ∷ []) facts.appends (tt, tt);
-  in_range = λ other others h. elim (in_more (Invoke other others) (Acked id) history h) [
-    | inl before ↦ facts.in_range other others before
-    | inr now ↦ let wrong : Acked id ≡ Invoke other others = now in cc
-  ];
-  begun_once = λ other x y f h twice. elim (precedes_more x y (Acked id) history twice) [
-    | inl before ↦ absurd (facts.begun_once other x y f h before)
-    | inr last ↦ let wrong : None ≡ Some other = ap invoked_id last.1 ∙ h in cc
-  ];
-  begun_before = λ other y f h. elim (in_more y (Acked id) history h) [
-    | inl before ↦ let k = facts.begun_before other y f before in (k.0, precedes_left (Invoke other k.0) y history (Acked id ∷ []) k.1)
-    | inr now ↦
-        let is : id ≡ other = let both : Some id ≡ Some other = ap finished_id now ∙ f in cc in
-        (bytes, subst (λ (z : Event). Precedes (Invoke other bytes) z (history ++ Acked id ∷ [])) now (precedes_across (Invoke other bytes) (Acked id) history (Acked id ∷ []) (subst (λ (z : Identity). In (Invoke z bytes) history) is begun) (inl refl)))
-  ];
-  ended_once = λ other x y f h twice. elim (precedes_more x y (Acked id) history twice) [
-    | inl before ↦ absurd (facts.ended_once other x y f h before)
-    | inr last ↦
-        let is : id ≡ other = let both : Some id ≡ Some other = ap finished_id last.1 ∙ h in cc in
-        absurd (unended (record { event = x; ends = f ∙ ap Some (sym is); stands = last.0 }))
-  ];
-}

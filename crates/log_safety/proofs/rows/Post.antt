@@ -8,11 +8,15 @@ use Rattle.list_facts.proofs.Members.{in_left, in_last, in_more, in_each, in_fil
 use Rattle.list_facts.proofs.Precedence.{precedes_first}
 use Rattle.list_facts.proofs.Puts.{put_cases}
 use Rattle.list_facts.proofs.Ranges.{in_range_below}
-use Rattle.log_safety.proofs.Parts.{Ghost, Parts, Finished, line_ids}
-use Rattle.log_safety.proofs.Facts.{Agreed, IsOpen, OpenFacts, ClientFacts}
-use Rattle.log_safety.proofs.Said.{Said, finished_moves}
-use Rattle.log_safety.proofs.Opens.{rises_more, lowest_more}
-use Rattle.log_safety.proofs.Telling.{with_client, client_moves, open_still, client_beside_client, member_beside_client, history_begun, finished_cases}
+use Rattle.log_safety.proofs.facts.Parts.{Ghost, Parts, HasEnded, line_ids}
+use Rattle.log_safety.proofs.facts.Agreed.{Agreed}
+use Rattle.log_safety.proofs.facts.Client.{IsOpen, OpenFacts, ClientFacts}
+use Rattle.log_safety.proofs.facts.Said.{Said}
+use Rattle.log_safety.proofs.facts.Moves.{ended_moves}
+use Rattle.log_safety.proofs.facts.OpenAppends.{rises_more, lowest_more}
+use Rattle.log_safety.proofs.rows.Good.{with_client, GoodClient}
+use Rattle.log_safety.proofs.rows.ClientStep.{client_moves, open_still, client_beside_client, member_beside_client}
+use Rattle.log_safety.proofs.facts.History.{history_begun, ended_cases}
 use Rattle.rec_id.specs.Identity.{Identity}
 use Rattle.rec_id.specs.History.{invoked_id}
 use Rattle.rec_id.specs.declared.event.Event.TheVariants.{Invoke}
@@ -26,16 +30,10 @@ use Rattle.lazy_msgs.specs.declared.msg.Msg.{Msg}
 use Rattle.lazy_msgs.specs.declared.msg.Msg.TheVariants.{Append, Put}
 use Rattle.lazy_msgs.specs.declared.refused.PostRefused.{PostRefused}
 use Rattle.lazy_msgs.specs.declared.refused.PostRefused.TheVariants.{TooLong, NumbersSpent, WindowFull}
-use Rattle.lazy_msgs.specs.Step.{Row}
 use Rattle.lazy_rules.specs.ClientRules.{post_refusal, lacking, sending, carried, data_nodes, homes_of, begun, invokes}
 use Rattle.lazy_rules.specs.Rows.{has_node}
 use Rattle.view_config.specs.declared.config.Config.{Config}
 use Rattle.lazy_rules.specs.ClientState.{ClientState, OpenAppend, id_of, lowest}
-
--- a row of client c that keeps all, and whose messages say what they should
-pub record GoodClient (shape : Dimensions) (g : Ghost) (a : Parts) (c : ℕ) (row : Row ClientState) : Type 0 where
-  pub agreed : Agreed shape g (with_client a c row.next row.events)
-  pub said : Each (λ (send : ℕ × Msg). Said shape g (with_client a c row.next row.events) c send.0 send.1) row.sends
 
 third_false : (one two three : Bool) (x y z : PostRefused) → (if one then Some x else (if two then Some y else (if three then Some z else None))) ≡ None → three ≡ false
 third_false true two three x y z h = cc
@@ -80,8 +78,8 @@ module _ (shape : Dimensions) (g : Ghost) (a : Parts) (c : ℕ) (there : c < sha
   not_begun : (others : List ℕ) → ¬ In (Invoke id others) a.history
   not_begun others h = let number = (facts.begun id others facts.named h).1 in absurd (omega arith)
 
-  not_ended : ¬ Finished b.history id
-  not_ended f = elim (finished_cases a.history (Invoke id bytes) id f) [
+  not_ended : ¬ HasEnded b.history id
+  not_ended f = elim (ended_cases a.history (Invoke id bytes) id f) [
     | inl before ↦ let first = agreed.history.begun_before id before.event before.ends before.stands in absurd (not_begun first.0 (precedes_first (Invoke id first.0) before.event a.history first.1))
     | inr now ↦ let wrong : None ≡ Some id = now in cc
   ]
@@ -91,11 +89,11 @@ module _ (shape : Dimensions) (g : Ghost) (a : Parts) (c : ℕ) (there : c < sha
       (each_weaker (OpenFacts shape g a k) (OpenFacts shape g b k_now) (λ append h. let still = open_still shape g a c k_now (Invoke id bytes) facts.named k append (λ ends. let wrong : None ≡ Some (id_of k append.number) = ends in cc) h in let below = still.below in record { below = omega arith; begun = still.begun; not_ended = still.not_ended; noted = still.noted }) k.unfinished facts.opened)
       (record { below = omega arith; begun = in_last (Invoke id bytes) a.history; not_ended = not_ended; noted = tt }, tt)
 
-  closed_now : (n : ℕ) → 1 ≤ n → n < k.next + 1 → IsOpen k_now n ⊎ Finished b.history (id_of k_now n)
+  closed_now : (n : ℕ) → 1 ≤ n → n < k.next + 1 → IsOpen k_now n ⊎ HasEnded b.history (id_of k_now n)
   closed_now n some below = elim (cases_lt n k.next) [
     | inl earlier ↦ elim (facts.closed n some earlier) [
       | inl open_one ↦ inl (record { append = open_one.append; among = in_left open_one.append k.unfinished (begun k bytes ∷ []) open_one.among; numbered = open_one.numbered })
-      | inr ended ↦ inr (finished_moves shape g a g b (client_moves g a c k_now (Invoke id bytes ∷ [])) (id_of k n) ended)
+      | inr ended ↦ inr (ended_moves shape g a g b (client_moves g a c k_now (Invoke id bytes ∷ [])) (id_of k n) ended)
     ]
     | inr last ↦ inl (record { append = begun k bytes; among = in_last (begun k bytes) k.unfinished; numbered = omega arith })
   ]

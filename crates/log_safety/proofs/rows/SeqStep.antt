@@ -1,17 +1,14 @@
--- Facts that a step elsewhere leaves as they are.
+-- A step of a sequencing replica: what it leaves as it is.
 use Rattle.std.proofs.Common.{ℕ}
-use Rattle.list_facts.specs.Lists.{put}
 use Rattle.list_facts.proofs.Members.{each_weaker}
-use Rattle.log_safety.proofs.Parts.{Ghost, Parts}
-use Rattle.log_safety.proofs.Facts.{ClientFacts, OpenFacts, MemberFacts, AckSays}
-use Rattle.log_safety.proofs.Said.{Moves, ack_moves}
+use Rattle.log_safety.proofs.facts.Parts.{Ghost, Parts}
+use Rattle.log_safety.proofs.facts.Client.{ClientFacts, OpenFacts}
+use Rattle.log_safety.proofs.facts.Seq.{MemberFacts, AckSays}
+use Rattle.log_safety.proofs.facts.Moves.{Moves, ack_moves}
 use Rattle.view_config.specs.Shape.{Dimensions}
 use Rattle.lazy_rules.specs.ClientState.{ClientState, id_of}
 use Rattle.lazy_rules.specs.SeqState.{SeqState}
-
--- the parts with another sequencing replica
-abbrev pub with_seq : Parts → ℕ → SeqState → Parts
-with_seq a i s = record a { seqs = put a.seqs i s }
+use Rattle.log_safety.proofs.rows.Good.{with_seq}
 
 module _ (shape : Dimensions) (g : Ghost) (a : Parts) (i : ℕ) (s : SeqState) (moves : Moves g a g (with_seq a i s)) where
   -- a client after a step of a sequencing replica

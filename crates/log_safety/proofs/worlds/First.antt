@@ -1,13 +1,15 @@
--- The world at first.
+-- All of it holds of the world at first.
 use Rattle.std.proofs.Common.{◌≡◌, ℕ, ◌+◌, ◌*◌, ◌<◌, [], false, Some, refl, sym, ap, ◌∙◌, subst, arith}
 use Rattle.std.specs.Prelude.{◌/◌, slice_get, replicate}
 use Rattle.std.proofs.lemmas.Bool.{leb-true}
 use Rattle.std.proofs.lemmas.List.{length-replicate, get_or-replicate}
 use Rattle.std.proofs.lemmas.Option.{get_or_from_slice_get, slice_get_within}
 use Rattle.std.proofs.lemmas.List.FromFn.{get_or-map-range_with_len, length-map-range_with_len}
-use Rattle.log_safety.proofs.Parts.{Ghost, Parts, parts_of}
-use Rattle.log_safety.proofs.Facts.{HistoryFacts, ClientFacts, SeqFacts, MemberFacts}
-use Rattle.log_safety.proofs.Worlds.{Holds}
+use Rattle.log_safety.proofs.facts.Parts.{Ghost, Parts, parts_of}
+use Rattle.log_safety.proofs.facts.History.{HistoryFacts}
+use Rattle.log_safety.proofs.facts.Client.{ClientFacts}
+use Rattle.log_safety.proofs.facts.Seq.{SeqFacts, MemberFacts}
+use Rattle.log_safety.proofs.worlds.Holds.{Holds}
 use Rattle.rec_id.specs.Marks.{span_of, no_marks, stands_marked}
 use Rattle.rec_id.specs.declared.marks.Marks.{Marks}
 use Rattle.view_config.specs.Limits.{window_of}

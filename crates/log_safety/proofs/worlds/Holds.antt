@@ -1,16 +1,15 @@
--- What holds of every world that covered events lead to.
+-- What holds of every world that built events lead to, and of the world after a step that keeps it.
 use Rattle.std.proofs.Common.{◌≡◌, ℕ, ◌+◌, ◌<◌, List, ◌++◌, length, ap, ◌∙◌, append-nil, arith, []}
 use Rattle.std.proofs.lemmas.List.{length-set}
 use Rattle.list_facts.specs.Lists.{Each, put}
 use Rattle.list_facts.proofs.Members.{each_append, each_weaker, each_map}
 use Rattle.list_facts.proofs.Puts.{at_set}
-use Rattle.log_safety.proofs.Parts.{Ghost, Parts, parts_of}
-use Rattle.log_safety.proofs.Facts.{Agreed}
-use Rattle.log_safety.proofs.Said.{Said, said_moves}
-use Rattle.log_safety.proofs.Frames.{with_seq}
-use Rattle.log_safety.proofs.Telling.{with_client, client_moves}
-use Rattle.log_safety.proofs.AppendRow.{GoodSeq}
-use Rattle.log_safety.proofs.PostRow.{GoodClient}
+use Rattle.log_safety.proofs.facts.Parts.{Ghost, Parts, parts_of}
+use Rattle.log_safety.proofs.facts.Agreed.{Agreed}
+use Rattle.log_safety.proofs.facts.Said.{Said}
+use Rattle.log_safety.proofs.facts.Moves.{said_moves}
+use Rattle.log_safety.proofs.rows.Good.{with_seq, with_client, GoodSeq, GoodClient}
+use Rattle.log_safety.proofs.rows.ClientStep.{client_moves}
 use Rattle.rec_id.specs.declared.event.Event.{Event}
 use Rattle.view_config.specs.Nodes.{seq_id}
 use Rattle.view_config.specs.Shape.{Dimensions}
@@ -33,8 +32,8 @@ pub record Holds (shape : Dimensions) (g : Ghost) (w : WorldState) : Type 0 wher
   pub said : Each (λ (e : Envelope). Said shape g (parts_of w) e.from e.to e.msg) w.sent
 
 -- messages that say what they should, in their envelopes
-said_enveloped : (shape : Dimensions) (g : Ghost) (a : Parts) (from time : ℕ) (sends : List (ℕ × Msg)) → Each (λ (send : ℕ × Msg). Said shape g a from send.0 send.1) sends → Each (λ (e : Envelope). Said shape g a e.from e.to e.msg) (enveloped from time sends)
-said_enveloped shape g a from time sends h = each_map (λ (send : ℕ × Msg). record { from = from; to = send.0; time = time; msg = send.1 }) (λ (e : Envelope). Said shape g a e.from e.to e.msg) sends h
+said_enveloped : (shape : Dimensions) (g : Ghost) (a : Parts) (sender time : ℕ) (sends : List (ℕ × Msg)) → Each (λ (send : ℕ × Msg). Said shape g a sender send.0 send.1) sends → Each (λ (e : Envelope). Said shape g a e.from e.to e.msg) (enveloped sender time sends)
+said_enveloped shape g a sender time sends h = each_map (λ (send : ℕ × Msg). record { from = sender; to = send.0; time = time; msg = send.1 }) (λ (e : Envelope). Said shape g a e.from e.to e.msg) sends h
 
 module _ (shape : Dimensions) (g : Ghost) (w : WorldState) (holds : Holds shape g w) where
   -- a step of a client

@@ -5,20 +5,19 @@ use Rattle.std.proofs.lemmas.Bool.{ltb-true}
 use Rattle.std.proofs.lemmas.Option.{get_or_from_slice_get, slice_get_within}
 use Rattle.list_facts.specs.Lists.{Each}
 use Rattle.list_facts.proofs.Cases.{either}
-use Rattle.list_facts.proofs.Places.{each_at, below_at}
+use Rattle.list_facts.proofs.Places.{each_at}
 use Rattle.log_safety.specs.Built.{IsBuilt}
-use Rattle.log_safety.proofs.Parts.{Ghost, parts_of}
-use Rattle.log_safety.proofs.Said.{Said, AppendSays, AckGoes}
-use Rattle.log_safety.proofs.AppendRow.{GoodSeq, good_append, good_stays as good_seq_stays}
-use Rattle.log_safety.proofs.PostRow.{GoodClient, good_post}
-use Rattle.log_safety.proofs.AckRow.{good_ack, good_stays as good_client_stays}
-use Rattle.log_safety.proofs.Nodes.{client_node_of, seq_node_of}
-use Rattle.log_safety.proofs.Worlds.{Holds, holds_client, holds_seq}
+use Rattle.log_safety.proofs.facts.Parts.{Ghost, parts_of}
+use Rattle.log_safety.proofs.facts.Said.{Said, AppendSays, AckGoes}
+use Rattle.log_safety.proofs.rows.Good.{GoodSeq, GoodClient}
+use Rattle.log_safety.proofs.rows.Append.{good_append, good_stays as good_seq_stays}
+use Rattle.log_safety.proofs.rows.Post.{good_post}
+use Rattle.log_safety.proofs.rows.AppendAck.{good_ack, good_stays as good_client_stays}
+use Rattle.log_safety.proofs.worlds.Delivery.{client_delivery, seq_delivery}
+use Rattle.log_safety.proofs.worlds.Holds.{Holds, holds_client, holds_seq}
 use Rattle.rec_id.specs.Identity.{Identity}
 use Rattle.view_config.specs.Shape.{Dimensions, IsShape, node_of}
 use Rattle.view_config.specs.declared.edition.Mode.TheVariants.{M}
-use Rattle.view_config.specs.declared.nodes.Node.{Node}
-use Rattle.view_config.specs.declared.nodes.Node.TheVariants.{Client, Seq}
 use Rattle.lazy_msgs.specs.declared.input.WorldEvent.{WorldEvent}
 use Rattle.lazy_msgs.specs.declared.input.WorldEvent.TheVariants.{Post, Deliver}
 use Rattle.lazy_msgs.specs.declared.msg.Envelope.{Envelope}
@@ -32,9 +31,9 @@ use Rattle.lazy_rules.specs.ClientState.{ClientState, first_client}
 use Rattle.lazy_rules.specs.Door.{is_turned_away, has_due_sender, has_due_items, names_clients, carries_window, carries_config}
 use Rattle.lazy_rules.specs.Rows.{stays, has_node}
 use Rattle.lazy_rules.specs.SeqRules.{seq_took, on_append}
-use Rattle.lazy_rules.specs.SeqState.{SeqState, first_seq}
+use Rattle.lazy_rules.specs.SeqState.{SeqState}
 use Rattle.lazy_rules.specs.WorldState.{WorldState}
-use Rattle.lazy_rules.specs.WorldRules.{accepted, happened, run, posted, delivered, received, seq_received, appends_received, client_did, seq_did, message_at, envelope_at, posting_refused, post_refused_at, delivery_refused, delivery_to_refused}
+use Rattle.lazy_rules.specs.WorldRules.{accepted, happened, run, posted, delivered, received, client_did, seq_did, message_at, envelope_at, posting_refused, post_refused_at, delivery_refused, delivery_to_refused}
 
 -- what isn't turned away names clients that the shape has
 door_open : (sender items clients window config : Bool) → (if not sender then true else (if not items then true else (if not clients then true else (if not window then true else not config)))) ≡ false → clients ≡ true
@@ -43,8 +42,8 @@ door_open true false clients window config h = cc
 door_open true true false window config h = cc
 door_open true true true window config h = refl
 
-let_in : (shape : Dimensions) (from : ℕ) (msg : Msg) → is_turned_away shape from msg ≡ false → names_clients shape msg ≡ true
-let_in shape from msg h = door_open (has_due_sender (node_of shape from) msg) (has_due_items msg) (names_clients shape msg) (carries_window shape msg) (carries_config shape msg) h
+let_in : (shape : Dimensions) (sender : ℕ) (msg : Msg) → is_turned_away shape sender msg ≡ false → names_clients shape msg ≡ true
+let_in shape sender msg h = door_open (has_due_sender (node_of shape sender) msg) (has_due_items msg) (names_clients shape msg) (carries_window shape msg) (carries_config shape msg) h
 
 -- a message that was sent, by its number
 pub numbered_said : (P : Envelope → Type 0) (sent : List Envelope) → Each P sent → (k : ℕ) (e : Envelope) → envelope_at sent k ≡ Some e → P e
@@ -78,73 +77,59 @@ module _ (shape : Dimensions) (formed : IsShape shape) (g : Ghost) (w : WorldSta
     post_kept = at_client (slice_get w.clients c) refl
 
   -- an Append at its sequencing replica
-  module _ (from to time view : ℕ) (id : Identity) (bytes : Option (List ℕ)) (says : AppendSays shape (parts_of w) to id bytes) where
-    abbrev envelope : Envelope
-    envelope = record { from = from; to = to; time = time; msg = Append view id bytes }
+  module _ (sender to time view : ℕ) (id : Identity) (bytes : Option (List ℕ)) (says : AppendSays shape (parts_of w) to id bytes) where
+    abbrev append : Msg
+    append = Append view id bytes
 
-    abbrev s_at : SeqState
-    s_at = get_or w.seqs says.index (first_seq w.shape 0)
+    abbrev sent : Envelope
+    sent = record { from = sender; to = to; time = time; msg = append }
 
-    node : node_of w.shape to ≡ Some (Seq says.index)
-    node = ap (λ (d : Dimensions). node_of d to) holds.shaped ∙ ap (node_of shape) says.is_node ∙ seq_node_of shape says.index formed says.there
+    abbrev seq : SeqState
+    seq = (parts_of w).seqs says.index
 
-    here : (x : SeqState) × (slice_get w.seqs says.index ≡ Some x)
-    here = let counted = holds.seq_count in let there = says.there in below_at w.seqs says.index (omega arith)
+    in_range : is_turned_away seq.shape sender append ≡ false → id.client < shape.clients
+    in_range h = subst (λ (d : Dimensions). id.client < d.clients) (holds.agreed.seqs says.index says.there).shaped (ltb-true id.client seq.shape.clients (let_in seq.shape sender append h))
 
-    is : s_at ≡ here.0
-    is = get_or_from_slice_get w.seqs says.index here.0 (first_seq w.shape 0) here.1
-
-    in_range : is_turned_away s_at.shape from (Append view id bytes) ≡ false → id.client < shape.clients
-    in_range h = subst (λ (d : Dimensions). id.client < d.clients) (holds.agreed.seqs says.index says.there).shaped (ltb-true id.client s_at.shape.clients (let_in s_at.shape from (Append view id bytes) h))
-
-    good : GoodSeq shape g (parts_of w) says.index (seq_took s_at from (Append view id bytes))
-    good = either (GoodSeq shape g (parts_of w) says.index) (is_turned_away s_at.shape from (Append view id bytes)) (stays s_at) (on_append s_at view id bytes)
+    good : GoodSeq shape g (parts_of w) says.index (seq_took seq sender append)
+    good = either (GoodSeq shape g (parts_of w) says.index) (is_turned_away seq.shape sender append) (stays seq) (on_append seq view id bytes)
         (λ h. good_seq_stays shape g (parts_of w) says.index says.there holds.agreed)
         (λ h. good_append shape g (parts_of w) says.index says.there holds.agreed view id bytes (in_range h) (subst (λ (n : ℕ). AppendSays shape (parts_of w) n id bytes) says.is_node says))
 
-    append_kept : Holds shape g (received w (record { from = from; to = to; time = time; msg = Append view id bytes }) (node_of w.shape to))
+    append_kept : Holds shape g (received w (record { from = sender; to = to; time = time; msg = Append view id bytes }) (node_of w.shape to))
     append_kept =
-        subst (λ (o : Option Node). Holds shape g (received w envelope o)) (sym node)
-        (subst (λ (o : Option SeqState). Holds shape g (seq_received w says.index envelope o)) (sym here.1)
-        (subst (λ (n : ℕ). Holds shape g (seq_did w n says.index time (seq_took here.0 from (Append view id bytes)))) (sym says.is_node)
-        (holds_seq shape g w holds says.index time says.there (seq_took here.0 from (Append view id bytes)) (subst (λ (x : SeqState). GoodSeq shape g (parts_of w) says.index (seq_took x from (Append view id bytes))) is good))))
+        subst (Holds shape g) (sym (seq_delivery shape formed g w holds sent says.index says.is_node says.there))
+        (subst (λ (n : ℕ). Holds shape g (seq_did w n says.index time (seq_took seq sender append))) (sym says.is_node)
+        (holds_seq shape g w holds says.index time says.there (seq_took seq sender append) good))
 
   -- an AppendAck at its client
-  module _ (from to time view : ℕ) (id : Identity) (says : AckGoes shape g (parts_of w) from to view id) where
-    abbrev envelope_back : Envelope
-    envelope_back = record { from = from; to = to; time = time; msg = AppendAck view id }
+  module _ (sender to time view : ℕ) (id : Identity) (says : AckGoes shape g (parts_of w) sender to view id) where
+    abbrev ack : Msg
+    ack = AppendAck view id
+
+    abbrev sent_back : Envelope
+    sent_back = record { from = sender; to = to; time = time; msg = ack }
 
     abbrev client : ClientState
-    client = get_or w.clients to (first_client w.shape 0)
+    client = (parts_of w).clients to
 
-    node_back : node_of w.shape to ≡ Some (Client to)
-    node_back = ap (λ (d : Dimensions). node_of d to) holds.shaped ∙ client_node_of shape to says.there
-
-    here_back : (x : ClientState) × (slice_get w.clients to ≡ Some x)
-    here_back = let counted = holds.client_count in let there = says.there in below_at w.clients to (omega arith)
-
-    is_back : client ≡ here_back.0
-    is_back = get_or_from_slice_get w.clients to here_back.0 (first_client w.shape 0) here_back.1
-
-    good_back : GoodClient shape g (parts_of w) to (client_took client from (AppendAck view id))
-    good_back = either (GoodClient shape g (parts_of w) to) (is_turned_away client.shape from (AppendAck view id)) (stays client) (on_append_ack client from view id)
+    good_back : GoodClient shape g (parts_of w) to (client_took client sender ack)
+    good_back = either (GoodClient shape g (parts_of w) to) (is_turned_away client.shape sender ack) (stays client) (on_append_ack client sender view id)
         (λ h. good_client_stays shape g (parts_of w) to says.there holds.agreed)
-        (λ h. good_ack shape g (parts_of w) to says.there holds.agreed from view id says.says)
+        (λ h. good_ack shape g (parts_of w) to says.there holds.agreed sender view id says.says)
 
-    ack_kept : Holds shape g (received w (record { from = from; to = to; time = time; msg = AppendAck view id }) (node_of w.shape to))
+    ack_kept : Holds shape g (received w (record { from = sender; to = to; time = time; msg = AppendAck view id }) (node_of w.shape to))
     ack_kept =
-        subst (λ (o : Option Node). Holds shape g (received w envelope_back o)) (sym node_back)
-        (subst (λ (o : Option ClientState). Holds shape g (appends_received w to envelope_back o)) (sym here_back.1)
-        (holds_client shape g w holds to time says.there (client_took here_back.0 from (AppendAck view id)) (subst (λ (x : ClientState). GoodClient shape g (parts_of w) to (client_took x from (AppendAck view id))) is_back good_back)))
+        subst (Holds shape g) (sym (client_delivery shape formed g w holds sent_back says.there refl))
+        (holds_client shape g w holds to time says.there (client_took client sender ack) good_back)
 
   module _ (k : ℕ) where
     abbrev delivered_is : Option EventRefused → Type 0
     delivered_is refused = Holds shape g (accepted w (Deliver k) refused)
 
-    at_message : (from to time : ℕ) (msg : Msg) → message_at w k ≡ Some (record { from = from; to = to; time = time; msg = msg }) → Said shape g (parts_of w) from to msg → delivered_is (delivery_to_refused w k to msg)
-    at_message from to time (Append view id bytes) here says = either delivered_is (has_node w.crashed to) (Some (Crashed to)) None (λ h. holds) (λ h. subst (λ (o : Option Envelope). Holds shape g (delivered w o)) (sym here) (append_kept from to time view id bytes says))
-    at_message from to time (AppendAck view id) here says = either delivered_is (has_node w.crashed to) (Some (Crashed to)) None (λ h. holds) (λ h. subst (λ (o : Option Envelope). Holds shape g (delivered w o)) (sym here) (ack_kept from to time view id says))
-    at_message from to time _ here says = absurd says
+    at_message : (sender to time : ℕ) (msg : Msg) → message_at w k ≡ Some (record { from = sender; to = to; time = time; msg = msg }) → Said shape g (parts_of w) sender to msg → delivered_is (delivery_to_refused w k to msg)
+    at_message sender to time (Append view id bytes) here says = either delivered_is (has_node w.crashed to) (Some (Crashed to)) None (λ h. holds) (λ h. subst (λ (o : Option Envelope). Holds shape g (delivered w o)) (sym here) (append_kept sender to time view id bytes says))
+    at_message sender to time (AppendAck view id) here says = either delivered_is (has_node w.crashed to) (Some (Crashed to)) None (λ h. holds) (λ h. subst (λ (o : Option Envelope). Holds shape g (delivered w o)) (sym here) (ack_kept sender to time view id says))
+    at_message sender to time _ here says = absurd says
 
     at_envelope : (o : Option Envelope) → message_at w k ≡ o → delivered_is (delivery_refused w k o)
     at_envelope None here = holds

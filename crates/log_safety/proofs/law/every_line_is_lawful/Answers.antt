@@ -1,4 +1,4 @@
-use Rattle.log_safety.proofs.HolderLines.{every_line_lawful}
+use Rattle.log_safety.proofs.lines.Holders.{every_line_lawful}
 use Rattle.log_safety.proofs.law.every_line_is_lawful.Goals as goal
 
 pub returns : goal.returns
