@@ -252,10 +252,7 @@ mod tests {
         let mut binder = two_batches(rt.alloc())?;
         for (placing, node, upto, progress, finished) in rows {
             assert_eq!(rt; answer(&mut binder, placing, node, upto), progress);
-            let from = match binder.finish() {
-                Some(batch) => Some(batch.from),
-                None => None,
-            };
+            let from = binder.finish().map(|batch| batch.from);
             assert_eq!(rt; from, finished);
         }
         Ok(())
@@ -303,10 +300,9 @@ mod tests {
             (20, None),
         ];
         for (bound, told) in ready {
-            let probe = match binder.ready(bound) {
-                Some(probe) => Some((probe.client, probe.read, probe.target)),
-                None => None,
-            };
+            let probe = binder
+                .ready(bound)
+                .map(|probe| (probe.client, probe.read, probe.target));
             assert_eq!(rt; probe, told);
         }
         assert!(rt; !binder.waiting());

@@ -143,15 +143,12 @@ impl Reads {
 fn replace(waiting: &mut [Read], client: u32, number: u32, target: u32)
     ensures { waiting.new ≡ map (λ other. if other.client == client then record { client = client; read = number; target = target } else other) waiting.old }
 {
-    match waiting.split_first_mut() {
-        Some((first, others)) => {
-            if first.client == client {
-                first.number = number;
-                first.target = target;
-            }
-            replace(others, client, number, target);
+    if let Some((first, others)) = waiting.split_first_mut() {
+        if first.client == client {
+            first.number = number;
+            first.target = target;
         }
-        None => {}
+        replace(others, client, number, target);
     }
 }
 

@@ -8,6 +8,7 @@ use Rattle.law_cases.specs.Told.{IsAnswered, StandsOnce}
 use Rattle.law_cases.proofs.ToldAt.{told_cases, told_from}
 use Rattle.list_facts.proofs.Places.{in_at, at_in}
 use Rattle.list_facts.proofs.Precedence.{precedes_at, at_precedes}
+use Rattle.rec_id.specs.declared.limits.TheConstants.{READ_LIMIT}
 use Rattle.rec_id.specs.Identity.{Identity}
 use Rattle.rec_id.specs.History.{finished_id, invoked_id, begun_read, asked_from, asked_to, is_tail, told_at, told_reach, IsInvokedWith}
 use Rattle.rec_id.specs.Line.{named_id, appended_id, id_at, IsToldOf, IsToldAt}
@@ -85,7 +86,7 @@ tail_forced history line s i j client read start from entries tail lt b a =
     let ask = same_ask history j client read r.ends i (Tail start) lt b in
     r.forced (subst (λ (x : Ask). IsTrue (is_tail x)) ask refl)
 
-pub tail_count : (history : List Event) (line : List Entry) → Slices history line → (i j client read start from : ℕ) (entries : List Entry) (t : ℕ) → i < j → slice_get history i ≡ Some (Begin client read (Tail start)) → slice_get history j ≡ Some (Answer client read from entries (Some t)) → (start ≡ from) × (length entries ≡ min (start + 256) t - from)
+pub tail_count : (history : List Event) (line : List Entry) → Slices history line → (i j client read start from : ℕ) (entries : List Entry) (t : ℕ) → i < j → slice_get history i ≡ Some (Begin client read (Tail start)) → slice_get history j ≡ Some (Answer client read from entries (Some t)) → (start ≡ from) × (length entries ≡ min (start + READ_LIMIT) t - from)
 tail_count history line s i j client read start from entries t lt b a =
     let r = (s j).answer client read from entries (Some t) a in
     let ask = same_ask history j client read r.ends i (Tail start) lt b in

@@ -10,6 +10,7 @@ ghost use Rattle.rec_id.specs.declared.entry.Entry.TheVariants.{Gone};
 ghost use Rattle.rec_id.specs.declared.event.Ask.TheVariants.{Tail};
 ghost use Rattle.rec_id.specs.declared.event.Event.{Event};
 ghost use Rattle.rec_id.specs.declared.event.Event.TheVariants.{Acked, Begin, Answer};
+ghost use Rattle.rec_id.specs.declared.limits.TheConstants.{READ_LIMIT};
 
 /// What was acknowledged stands at one place of the line, and at no other.
 pub fn acknowledged_appends_stand_once()
@@ -34,9 +35,9 @@ pub fn no_answer_has_a_gone_entry()
 {}
 
 /// A read of the tail is answered by force, also where it has all that it may have: the entries of
-/// 256 places from its start on, or those up to its tail.
+/// `READ_LIMIT` places from its start on, or those up to its tail.
 pub fn tail_reads_are_forced()
     ensures forced { (history : List Event) (line : List Entry) → Lawful history line → (i j client read start from : ℕ) (entries : List Entry) (tail : Option ℕ) → i < j → slice_get history i ≡ Some (Begin client read (Tail start)) → slice_get history j ≡ Some (Answer client read from entries tail) → IsSome tail }
     ensures from { (history : List Event) (line : List Entry) → Lawful history line → (i j client read start from : ℕ) (entries : List Entry) (t : ℕ) → i < j → slice_get history i ≡ Some (Begin client read (Tail start)) → slice_get history j ≡ Some (Answer client read from entries (Some t)) → start ≡ from }
-    ensures count { (history : List Event) (line : List Entry) → Lawful history line → (i j client read start from : ℕ) (entries : List Entry) (t : ℕ) → i < j → slice_get history i ≡ Some (Begin client read (Tail start)) → slice_get history j ≡ Some (Answer client read from entries (Some t)) → length entries ≡ min (start + 256) t - start }
+    ensures count { (history : List Event) (line : List Entry) → Lawful history line → (i j client read start from : ℕ) (entries : List Entry) (t : ℕ) → i < j → slice_get history i ≡ Some (Begin client read (Tail start)) → slice_get history j ≡ Some (Answer client read from entries (Some t)) → length entries ≡ min (start + READ_LIMIT) t - start }
 {}

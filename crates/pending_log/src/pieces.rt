@@ -12,6 +12,7 @@ pub(crate) fn find_in_pieces(front: &[u64], back: &[u64], word: u64) -> Option<u
     if let Some(i) = find_word(front, word) {
         return Some(i);
     }
+    // No `map`: its closure wouldn't know that the sum fits.
     match find_word(back, word) {
         Some(i) => Some(front.len() + i),
         None => None,

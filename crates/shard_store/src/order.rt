@@ -282,11 +282,8 @@ fn forget_place(opens: &mut Vec<u32>, place: u32)
     ensures items { opens.new.items ≡ remove opens.old.items (position_or_len (λ other. other == place) opens.old.items) }
     ensures capacity { vec_capacity opens.new ≡ vec_capacity opens.old }
 {
-    match find_place(opens, place) {
-        Some(i) => {
-            let _ = opens.remove(i);
-        }
-        None => {}
+    if let Some(i) = find_place(opens, place) {
+        let _ = opens.remove(i);
     }
 }
 

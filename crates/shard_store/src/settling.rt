@@ -40,6 +40,7 @@ pub(crate) fn settle(held: &mut Held, cell: Cell) -> Cell
     ensures held { held.new.records ≡ held_after held.old.records (settled held.old.records cell) }
 {
     let Cell { id, body } = cell;
+    // Each kind of body has its arm, since `settled` goes by kinds: one arm for all others isn't proved.
     match body {
         Body::Open => Cell {
             id,

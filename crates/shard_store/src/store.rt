@@ -67,6 +67,7 @@ impl ShardStore {
         ensures short { result < 2 ^ 32 }
         ensures sound { IsSound self.now }
     {
+        // That `stable` fits 32 bits, as `sound` says, is known where it is read.
         let _stable = self.stable;
         self.order.len()
     }
