@@ -1,4 +1,5 @@
-use Rattle.std.specs.Prelude.{ℕ, ◌+◌, ◌^◌, List, [], ◌∷◌, length, filter, Bool, not, ◌||◌, ◌==◌, nat_lt, if◌then◌else◌, Option, Some, None}
+use Rattle.std.specs.Prelude.{ℕ, ◌+◌, ◌^◌, List, [], ◌∷◌, length, filter, Bool, not, ◌||◌, ◌==◌, nat_lt, if◌then◌else◌, Option, Some}
+use Rattle.std.specs.Option.{is_none, option_map, option_map_or}
 use Rattle.rec_id.specs.declared.item.Item.{Item}
 use Rattle.rec_id.specs.declared.marks.Marks.{Marks}
 use Rattle.view_config.specs.declared.config.Config.{Config}
@@ -24,20 +25,17 @@ use Rattle.lazy_rules.specs.Rows.{stays, answers, sends_all, to_each, each_numbe
 abbrev pub is_named : Config → ℕ → Bool
 is_named config node = has_node config.seq node || has_node (replicas_of config) node
 
+-- why a configuration isn't made is why the controller doesn't replace a node
+abbrev pub refusal_of : ConfigError → SuspectRefused
+refusal_of LastSeqError = LastSeq
+refusal_of (LastOfShardError shard) = LastOfShard shard
+refusal_of ViewsSpentError = ViewsSpent
+refusal_of MemoryError = Memory
+
 -- why the controller doesn't replace this node, if it doesn't: it goes by the newest configuration
-abbrev pub replacing_refused : ConfigError → SuspectRefused
-replacing_refused LastSeqError = LastSeq
-replacing_refused (LastOfShardError shard) = LastOfShard shard
-replacing_refused ViewsSpentError = ViewsSpent
-replacing_refused MemoryError = Memory
-
-abbrev pub why_not_replaced : Option ConfigError → Option SuspectRefused
-why_not_replaced None = None
-why_not_replaced (Some error) = Some (replacing_refused error)
-
 abbrev pub suspect_refusal : ControlState → ℕ → Option SuspectRefused
 suspect_refusal k node =
-    if is_named (newest k) node then why_not_replaced (without_refusal (newest k) (node ∷ []) k.spares)
+    if is_named (newest k) node then option_map refusal_of (without_refusal (newest k) (node ∷ []) k.spares)
     else Some NotInView
 
 -- the newest configuration without this node, and the spares that it doesn't name
@@ -79,13 +77,12 @@ renames k old coming = stays (naming k coming (Sealing (record { old = old; comi
 abbrev pub flushes_anew : ControlState → Taken → Row ControlState
 flushes_anew k taken = sends_all (naming k taken.config (Flushing taken)) (flush_sends k taken)
 
-abbrev pub replaces_in : ControlState → ℕ → Phase → Row ControlState
-replaces_in k node (Running reign) = seals_view k reign.config (next_config k node)
-replaces_in k node (Sealing change) = renames k change.old (next_config k node)
-replaces_in k node (Flushing taken) = flushes_anew k (with_config taken (next_config k node))
-
 abbrev pub replaces : ControlState → ℕ → Row ControlState
-replaces k node = replaces_in k node k.phase
+replaces k node = elim k.phase [
+  | Running reign ↦ seals_view k reign.config (next_config k node)
+  | Sealing change ↦ renames k change.old (next_config k node)
+  | Flushing taken ↦ flushes_anew k (with_config taken (next_config k node))
+]
 
 -- Sealed, of the view that is being sealed: what the replica had is taken, and flushed
 abbrev pub takes_state : ControlState → Taken → Row ControlState
@@ -100,17 +97,16 @@ new_taken config from items window = record {
   flushed = [];
 }
 
-abbrev pub sealed_at : ControlState → ℕ → ℕ → List Marks → List Item → Phase → Row ControlState
-sealed_at k view bound window items (Sealing change) =
-    if view == change.old.view then takes_state k (new_taken change.coming bound items window) else stays k
-sealed_at k view bound window items _ = stays k
-
 abbrev pub on_sealed : ControlState → ℕ → ℕ → List Marks → List Item → Row ControlState
-on_sealed k view bound window items = sealed_at k view bound window items k.phase
+on_sealed k view bound window items = elim k.phase [
+  | Sealing change ↦
+      if view == change.old.view then takes_state k (new_taken change.coming bound items window) else stays k
+  | _ ↦ stays k
+]
 
 -- SealedEmpty: the same with what the view began with
 abbrev pub on_sealed_empty : ControlState → ℕ → Row ControlState
-on_sealed_empty k view = sealed_at k view k.base k.window [] k.phase
+on_sealed_empty k view = on_sealed k view k.base k.window []
 
 -- the view starts where all shards have the flushed order
 abbrev pub new_reign : Config → Reign
@@ -145,37 +141,29 @@ notes_flush k taken = if is_flushed_by_all taken then ends_flush k taken else st
 abbrev pub with_flushed : Taken → ℕ → Taken
 with_flushed taken shard = record taken { flushed = answered_by taken.flushed shard }
 
-abbrev pub flushed_by : ControlState → Taken → Option ℕ → Row ControlState
-flushed_by k taken None = stays k
-flushed_by k taken (Some shard) = notes_flush k (with_flushed taken shard)
-
-abbrev pub flushed_at : ControlState → ℕ → ℕ → Phase → Row ControlState
-flushed_at k sender view (Flushing taken) =
-    if view == taken.config.view then flushed_by k taken (shard_led_by taken.config sender) else stays k
-flushed_at k sender view _ = stays k
-
 abbrev pub on_flushed : ControlState → ℕ → ℕ → Row ControlState
-on_flushed k sender view = flushed_at k sender view k.phase
+on_flushed k sender view = elim k.phase [
+  | Flushing taken ↦
+      if view == taken.config.view
+      then option_map_or (λ shard. notes_flush k (with_flushed taken shard)) (shard_led_by taken.config sender) (stays k)
+      else stays k
+  | _ ↦ stays k
+]
 
 -- Started, of the running view: the sender is noted
 abbrev pub with_started : Reign → ℕ → Reign
 with_started reign node = record reign { started = with_node reign.started node }
 
-abbrev pub started_at : ControlState → ℕ → ℕ → Phase → Row ControlState
-started_at k sender view (Running reign) =
-    if view == reign.config.view then stays (at_phase k (Running (with_started reign sender))) else stays k
-started_at k sender view _ = stays k
-
 abbrev pub on_started : ControlState → ℕ → ℕ → Row ControlState
-on_started k sender view = started_at k sender view k.phase
+on_started k sender view = elim k.phase [
+  | Running reign ↦
+      if view == reign.config.view then stays (at_phase k (Running (with_started reign sender))) else stays k
+  | _ ↦ stays k
+]
 
 -- AskView: the running view is told
-abbrev pub tells_view : ControlState → ℕ → Phase → Row ControlState
-tells_view k sender (Running reign) = answers k sender (ViewIs reign.config)
-tells_view k sender _ = stays k
-
 abbrev pub on_ask_view : ControlState → ℕ → Row ControlState
-on_ask_view k sender = tells_view k sender k.phase
+on_ask_view k sender = elim k.phase [ | Running reign ↦ answers k sender (ViewIs reign.config) | _ ↦ stays k ]
 
 -- Tick: what isn't answered is sent again
 abbrev pub not_started : Reign → List ℕ
@@ -184,21 +172,19 @@ not_started reign = filter (λ node. not (has_node reign.started node)) reign.co
 abbrev pub flush_again_to : ControlState → Taken → ℕ → List ℕ → List (ℕ × Msg)
 flush_again_to k taken shard nodes = if has_node taken.flushed shard then [] else flush_to k taken shard nodes
 
-abbrev pub again_sends : ControlState → Phase → List (ℕ × Msg)
-again_sends k (Running reign) = to_each (not_started reign) (new_view_msg k reign.config)
-again_sends k (Sealing change) = to_each change.old.seq (Seal change.old.view)
-again_sends k (Flushing taken) = each_numbered (flush_again_to k taken) 0 taken.config.shards
+abbrev pub again_sends : ControlState → List (ℕ × Msg)
+again_sends k = elim k.phase [
+  | Running reign ↦ to_each (not_started reign) (new_view_msg k reign.config)
+  | Sealing change ↦ to_each change.old.seq (Seal change.old.view)
+  | Flushing taken ↦ each_numbered (flush_again_to k taken) 0 taken.config.shards
+]
 
 abbrev pub on_control_tick : ControlState → Row ControlState
-on_control_tick k = sends_all k (again_sends k k.phase)
+on_control_tick k = sends_all k (again_sends k)
 
 -- Suspect, where it isn't refused
-abbrev pub replaces_unless : ControlState → ℕ → Option SuspectRefused → Row ControlState
-replaces_unless k node None = replaces k node
-replaces_unless k node (Some refused) = stays k
-
 abbrev pub on_suspect : ControlState → ℕ → Row ControlState
-on_suspect k node = replaces_unless k node (suspect_refusal k node)
+on_suspect k node = if is_none (suspect_refusal k node) then replaces k node else stays k
 
 -- what a message does, where it isn't turned away
 abbrev pub control_row : ControlState → ℕ → Msg → Row ControlState

@@ -62,13 +62,12 @@ first_control shape = record {
 }
 
 -- the newest configuration
-abbrev pub newest_in : Phase → Config
-newest_in (Running reign) = reign.config
-newest_in (Sealing change) = change.coming
-newest_in (Flushing taken) = taken.config
-
 abbrev pub newest : ControlState → Config
-newest k = newest_in k.phase
+newest k = elim k.phase [
+  | Running reign ↦ reign.config
+  | Sealing change ↦ change.coming
+  | Flushing taken ↦ taken.config
+]
 
 -- the configuration of the latest started view, while no state is taken
 abbrev pub latest_started : Phase → Option Config
@@ -78,12 +77,8 @@ latest_started (Flushing taken) = None
 
 -- how many positions of the log are bound at least: of the taken state, or where the latest started view
 -- began
-abbrev pub base_in : ℕ → Phase → ℕ
-base_in base (Flushing taken) = taken.from
-base_in base _ = base
-
 abbrev pub base_of : ControlState → ℕ
-base_of k = base_in k.base k.phase
+base_of k = elim k.phase [ | Flushing taken ↦ taken.from | _ ↦ k.base ]
 
 -- the items of the taken state, while there is one
 abbrev pub taken_items : Phase → Option (List Item)

@@ -1,5 +1,6 @@
-use Rattle.std.specs.Prelude.{ℕ, List, [], ◌∷◌, length, map, filter, drop, Bool, false, not, ◌&&◌, nat_le, nat_lt, if◌then◌else◌, Option, Some, None, slice_range}
+use Rattle.std.specs.Prelude.{ℕ, List, [], ◌∷◌, length, map, filter, drop, Bool, false, not, ◌&&◌, nat_le, nat_lt, if◌then◌else◌, None, slice_range}
 use Rattle.std.specs.List.{list_all}
+use Rattle.std.specs.Option.{option_map_or}
 use Rattle.lazy_msgs.specs.declared.msg.Msg.TheVariants.{Placed, Copy, FlushCopy, Flushed}
 use Rattle.lazy_msgs.specs.Step.{Row}
 use Rattle.lazy_rules.specs.Rows.{stays, answers, sends_all, followed, to_each}
@@ -13,12 +14,8 @@ abbrev pub length_of : ShardState → ℕ
 length_of s = length s.store.order
 
 -- the backup is known to have the order up to here
-abbrev pub reaches_by : ℕ → Option ℕ → Bool
-reaches_by upto None = false
-reaches_by upto (Some copied) = nat_le upto copied
-
 abbrev pub reaches : ℕ → Backup → Bool
-reaches upto backup = reaches_by upto backup.copied
+reaches upto backup = option_map_or (nat_le upto) backup.copied false
 
 -- the backups that aren't
 abbrev pub lagging : ShardState → ℕ → List ℕ
@@ -37,13 +34,12 @@ places_end s (job ∷ jobs) =
     then followed (answers (record s { jobs = jobs }) job.asker (Placed s.view job.end)) (λ after. places_end after jobs)
     else stays s
 
-abbrev pub flush_ends : ShardState → Option FlushJob → Row ShardState
-flush_ends s None = stays s
-flush_ends s (Some job) =
+abbrev pub flush_ends : ShardState → FlushJob → Row ShardState
+flush_ends s job =
     if is_settled s (length_of s) then answers (record s { flush = None }) job.asker (Flushed s.view) else stays s
 
 abbrev pub settles : ShardState → Row ShardState
-settles s = followed (places_end s s.jobs) (λ after. flush_ends after after.flush)
+settles s = followed (places_end s s.jobs) (λ after. option_map_or (flush_ends after) after.flush (stays after))
 
 -- PUSH of a Place job: its cells for the backups that lack them, unless one up to its end is open
 abbrev pub pushes_place : ShardState → PlaceJob → Row ShardState
@@ -61,11 +57,6 @@ pushes_flush s job =
     (sends_all s (to_each (lagging s (length_of s)) (FlushCopy s.view job.from (drop job.from s.store.order))))
     settles
 
--- PUSH of a Flush job, if there is one
-abbrev pub pushes_any_flush : ShardState → Option FlushJob → Row ShardState
-pushes_any_flush s None = stays s
-pushes_any_flush s (Some job) = pushes_flush s job
-
 -- PUSH of several Place jobs, one after the other
 abbrev pub pushes_places : ShardState → List PlaceJob → Row ShardState
 pushes_places s [] = stays s
@@ -74,4 +65,6 @@ pushes_places s (job ∷ jobs) = followed (pushes_place s job) (λ after. pushes
 -- PUSH of each Place job that ends above this place, and of a Flush job
 abbrev pub pushes_above : ShardState → ℕ → Row ShardState
 pushes_above s place =
-    followed (pushes_places s (filter (λ job. nat_lt place job.end) s.jobs)) (λ after. pushes_any_flush after after.flush)
+    followed
+    (pushes_places s (filter (λ job. nat_lt place job.end) s.jobs))
+    (λ after. option_map_or (pushes_flush after) after.flush (stays after))

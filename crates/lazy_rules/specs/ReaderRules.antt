@@ -1,6 +1,6 @@
-use Rattle.std.specs.Prelude.{ℕ, ◌+◌, ◌-◌, ◌%◌, ◌^◌, max, min, List, [], ◌∷◌, ◌++◌, length, filter, flat_map, replicate, Bool, not, ◌&&◌, ◌||◌, ◌==◌, nat_le, nat_lt, if◌then◌else◌, Option, Some, None, slice_get, slice_set, slice_index_or}
+use Rattle.std.specs.Prelude.{ℕ, ◌+◌, ◌-◌, ◌%◌, ◌^◌, max, min, List, [], ◌∷◌, ◌++◌, length, filter, flat_map, replicate, Bool, not, ◌&&◌, ◌||◌, ◌==◌, nat_le, nat_lt, if◌then◌else◌, Option, Some, None, slice_get, slice_set, slice_index_or, unwrap_or}
 use Rattle.std.specs.List.{list_all, range_with_len}
-use Rattle.std.specs.Option.{is_some, is_none, option_to_list}
+use Rattle.std.specs.Option.{is_some, is_none, option_map_or, option_to_list}
 use Rattle.rec_id.specs.History.{answer_reach, asked_from, asked_to}
 use Rattle.rec_id.specs.declared.entry.Entry.{Entry}
 use Rattle.rec_id.specs.declared.event.Ask.{Ask}
@@ -9,9 +9,6 @@ use Rattle.rec_id.specs.declared.event.Event.TheVariants.{Begin, Answer, TrimAsk
 use Rattle.view_config.specs.declared.config.Config.{Config}
 use Rattle.view_config.specs.declared.edition.Edition.{Edition}
 use Rattle.view_config.specs.declared.edition.Edition.TheVariants.{One, Two}
-use Rattle.view_config.specs.declared.nodes.Node.{Node}
-use Rattle.view_config.specs.declared.nodes.Node.TheVariants.{Shard}
-use Rattle.view_config.specs.Shape.{node_of}
 use Rattle.lazy_msgs.specs.declared.input.Input.{Input}
 use Rattle.lazy_msgs.specs.declared.input.Input.TheVariants.{Take, Tick, Ask as AskInput, Trim as TrimInput}
 use Rattle.lazy_msgs.specs.declared.msg.Msg.{Msg}
@@ -24,7 +21,7 @@ use Rattle.lazy_msgs.specs.Step.{Row}
 use Rattle.lazy_rules.specs.ClientRules.{with_node}
 use Rattle.lazy_rules.specs.Door.{is_turned_away}
 use Rattle.lazy_rules.specs.ReaderState.{ReaderState, Fetch, Force, Trimmer, Stage, Idle, Fetching, Probing, Trimming, outstanding}
-use Rattle.lazy_rules.specs.Roles.{is_first, first_of, primaries_of, replicas_of}
+use Rattle.lazy_rules.specs.Roles.{is_first, first_of, home_of, primaries_of, replicas_of}
 use Rattle.lazy_rules.specs.Rows.{stays, sends_all, followed, to_each, each_numbered, has_node}
 use Rattle.rec_id.specs.declared.limits.TheConstants.{READ_LIMIT}
 
@@ -34,20 +31,14 @@ range_refusal (Range from to) =
     if nat_lt to from then Some Backward else (if nat_lt READ_LIMIT (to - from) then Some Wide else None)
 range_refusal (Tail from) = None
 
-abbrev pub begin_refusal_beside : Option ℕ → Ask → Option BeginRefused
-begin_refusal_beside (Some number) ask = Some (Outstanding number)
-begin_refusal_beside None ask = range_refusal ask
-
 abbrev pub begin_refusal : ReaderState → Ask → Option BeginRefused
-begin_refusal r ask = begin_refusal_beside (outstanding r.stage) ask
+begin_refusal r ask = option_map_or (λ number. Some (Outstanding number)) (outstanding r.stage) (range_refusal ask)
 
 -- why a trim is refused, if it is: a client trims no further than its answers reached
-abbrev pub trim_refusal_beside : Option ℕ → ℕ → ℕ → Option TrimRefused
-trim_refusal_beside (Some number) reach floor = Some (TrimOutstanding number)
-trim_refusal_beside None reach floor = if nat_lt reach floor then Some (Ahead reach) else None
-
 abbrev pub trim_refusal : ReaderState → ℕ → Option TrimRefused
-trim_refusal r floor = trim_refusal_beside (outstanding r.stage) r.reach floor
+trim_refusal r floor =
+    option_map_or (λ number. Some (TrimOutstanding number)) (outstanding r.stage)
+    (if nat_lt r.reach floor then Some (Ahead r.reach) else None)
 
 -- the reader at another stage
 abbrev pub at_stage : ReaderState → Stage → ReaderState
@@ -129,8 +120,8 @@ begins_trim r floor =
     else stays r
 
 -- all shard replicas of the reader's view gave up the bytes
-abbrev pub is_trimmed : ReaderState → Trimmer → Bool
-is_trimmed r trimmer = list_all (has_node trimmer.acked) (replicas_of r.config)
+abbrev pub is_trim_complete : ReaderState → Trimmer → Bool
+is_trim_complete r trimmer = list_all (has_node trimmer.acked) (replicas_of r.config)
 
 abbrev pub ends_trim : ReaderState → Trimmer → Row ReaderState
 ends_trim r trimmer = record {
@@ -146,19 +137,18 @@ trim_sends r trimmer =
 
 -- TrimAck: noted where it is of a shard replica of the reader's view; the last one ends the trim
 abbrev pub notes_trim : ReaderState → Trimmer → Row ReaderState
-notes_trim r trimmer = if is_trimmed r trimmer then ends_trim r trimmer else stays (at_stage r (Trimming trimmer))
+notes_trim r trimmer = if is_trim_complete r trimmer then ends_trim r trimmer else stays (at_stage r (Trimming trimmer))
 
 abbrev pub acked_trim : Trimmer → ℕ → Trimmer
 acked_trim trimmer node = record trimmer { acked = with_node trimmer.acked node }
 
-abbrev pub trim_ack_at : ReaderState → ℕ → ℕ → Stage → Row ReaderState
-trim_ack_at r sender number (Trimming trimmer) =
-    if trimmer.number == number && has_node (replicas_of r.config) sender then notes_trim r (acked_trim trimmer sender)
-    else stays r
-trim_ack_at r sender number _ = stays r
-
 abbrev pub on_trim_ack : ReaderState → ℕ → ℕ → Row ReaderState
-on_trim_ack r sender number = trim_ack_at r sender number r.stage
+on_trim_ack r sender number = elim r.stage [
+  | Trimming trimmer ↦
+      if trimmer.number == number && has_node (replicas_of r.config) sender then notes_trim r (acked_trim trimmer sender)
+      else stays r
+  | _ ↦ stays r
+]
 
 -- the entry that a shard told of a place, the first where there are several
 abbrev pub entry_at : List (ℕ × Entry) → ℕ → Option Entry
@@ -166,12 +156,8 @@ entry_at [] place = None
 entry_at (placed ∷ others) place = if placed.0 == place then Some placed.1 else entry_at others place
 
 -- what the shards told, by shard
-abbrev pub told_by : Option (List (ℕ × Entry)) → List (ℕ × Entry)
-told_by None = []
-told_by (Some entries) = entries
-
 abbrev pub told_by_all : List (Option (List (ℕ × Entry))) → List (ℕ × Entry)
-told_by_all parts = flat_map told_by parts
+told_by_all parts = flat_map (λ part. unwrap_or part []) parts
 
 -- the entries in [from, end), by place
 abbrev pub entries_in : List (Option (List (ℕ × Entry))) → ℕ → ℕ → List Entry
@@ -192,42 +178,38 @@ gathers r fetch =
     then answered r fetch.number fetch.ask (entries_in fetch.parts (asked_from fetch.ask) fetch.end) fetch.tail
     else stays (at_stage r (Fetching fetch))
 
--- Part, up to the end or further: kept where the shard's isn't there
-abbrev pub keeps_part : ReaderState → Fetch → List (ℕ × Entry) → Option Node → Row ReaderState
-keeps_part r fetch entries (Some (Shard i j)) =
-    if lacks_part fetch i then gathers r (with_part fetch i entries) else stays r
-keeps_part r fetch entries _ = stays r
+-- Part, up to the end or further: kept where its shard's isn't there
+abbrev pub keeps_part : ReaderState → Fetch → List (ℕ × Entry) → ℕ → Row ReaderState
+keeps_part r fetch entries shard =
+    if lacks_part fetch shard then gathers r (with_part fetch shard entries) else stays r
 
 -- Part, of less: the read forces, unless it was forced
-abbrev pub falls_short : ReaderState → Fetch → Option ℕ → Row ReaderState
-falls_short r fetch None = probes_all r fetch.number fetch.ask
-falls_short r fetch (Some tail) = stays r
+abbrev pub falls_short : ReaderState → Fetch → Row ReaderState
+falls_short r fetch = if is_none fetch.tail then probes_all r fetch.number fetch.ask else stays r
 
 -- the read has this number, and begins at this place
 abbrev pub is_fetch_of : Fetch → ℕ → ℕ → Bool
 is_fetch_of fetch number from = fetch.number == number && asked_from fetch.ask == from
 
-abbrev pub part_at : ReaderState → ℕ → ℕ → ℕ → ℕ → List (ℕ × Entry) → Stage → Row ReaderState
-part_at r sender number from end entries (Fetching fetch) =
-    if not (is_fetch_of fetch number from) then stays r
-    else (if nat_le fetch.end end then keeps_part r fetch entries (node_of r.shape sender)
-    else falls_short r fetch fetch.tail)
-part_at r sender number from end entries _ = stays r
-
 abbrev pub on_part : ReaderState → ℕ → ℕ → ℕ → ℕ → List (ℕ × Entry) → Row ReaderState
-on_part r sender number from end entries = part_at r sender number from end entries r.stage
+on_part r sender number from end entries = elim r.stage [
+  | Fetching fetch ↦
+      if not (is_fetch_of fetch number from) then stays r
+      else (if nat_le fetch.end end then option_map_or (keeps_part r fetch entries) (home_of r.shape sender) (stays r)
+      else falls_short r fetch)
+  | _ ↦ stays r
+]
 
 -- TrimmedAt: a part of what the read wants was given up, and it is over
-abbrev pub trimmed : ReaderState → ℕ → ℕ → Row ReaderState
-trimmed r number floor = record { next = at_stage r Idle; sends = []; events = Trimmed r.client number floor ∷ [] }
-
-abbrev pub trimmed_at : ReaderState → ℕ → ℕ → Stage → Row ReaderState
-trimmed_at r number floor (Fetching fetch) =
-    if fetch.number == number && nat_lt (asked_from fetch.ask) floor then trimmed r number floor else stays r
-trimmed_at r number floor _ = stays r
+abbrev pub ends_read : ReaderState → ℕ → ℕ → Row ReaderState
+ends_read r number floor = record { next = at_stage r Idle; sends = []; events = Trimmed r.client number floor ∷ [] }
 
 abbrev pub on_trimmed_at : ReaderState → ℕ → ℕ → Row ReaderState
-on_trimmed_at r number floor = trimmed_at r number floor r.stage
+on_trimmed_at r number floor = elim r.stage [
+  | Fetching fetch ↦
+      if fetch.number == number && nat_lt (asked_from fetch.ask) floor then ends_read r number floor else stays r
+  | _ ↦ stays r
+]
 
 -- DECIDE: once all sequencing replicas acknowledged and the tail is there, the read wants no more than
 -- lies below the tail: it fetches that, or is answered where that is nothing
@@ -239,14 +221,11 @@ concludes r force tail =
     if nat_le (forced_end force.ask tail) (asked_from force.ask) then answered r force.number force.ask [] (Some tail)
     else fetches r force.number force.ask (forced_end force.ask tail) (Some tail)
 
-abbrev pub decides_by : ReaderState → Force → Option ℕ → Row ReaderState
-decides_by r force None = stays (at_stage r (Probing force))
-decides_by r force (Some tail) =
-    if list_all (has_node force.acked) r.config.seq then concludes r force tail
-    else stays (at_stage r (Probing force))
-
 abbrev pub decides : ReaderState → Force → Row ReaderState
-decides r force = decides_by r force force.tail
+decides r force =
+    if list_all (has_node force.acked) r.config.seq
+    then option_map_or (concludes r force) force.tail (stays (at_stage r (Probing force)))
+    else stays (at_stage r (Probing force))
 
 -- the probe of this number, in the reader's view
 abbrev pub is_force_of : ReaderState → Force → ℕ → ℕ → Bool
@@ -256,28 +235,26 @@ is_force_of r force view number = force.number == number && view == r.config.vie
 abbrev pub acked_force : Force → ℕ → Force
 acked_force force node = record force { acked = with_node force.acked node }
 
-abbrev pub probe_ack_at : ReaderState → ℕ → ℕ → ℕ → Stage → Row ReaderState
-probe_ack_at r sender view number (Probing force) =
-    if is_force_of r force view number && has_node r.config.seq sender then decides r (acked_force force sender)
-    else stays r
-probe_ack_at r sender view number _ = stays r
-
 abbrev pub on_probe_ack : ReaderState → ℕ → ℕ → ℕ → Row ReaderState
-on_probe_ack r sender view number = probe_ack_at r sender view number r.stage
+on_probe_ack r sender view number = elim r.stage [
+  | Probing force ↦
+      if is_force_of r force view number && has_node r.config.seq sender then decides r (acked_force force sender)
+      else stays r
+  | _ ↦ stays r
+]
 
 -- TailReady: noted where it is of the reader's view and of its leader, and none was noted before
 abbrev pub with_tail : Force → ℕ → Force
 with_tail force tail = record force { tail = Some tail }
 
-abbrev pub tail_ready_at : ReaderState → ℕ → ℕ → ℕ → ℕ → Stage → Row ReaderState
-tail_ready_at r sender view number tail (Probing force) =
-    if is_force_of r force view number && is_first r.config.seq sender && is_none force.tail
-    then decides r (with_tail force tail)
-    else stays r
-tail_ready_at r sender view number tail _ = stays r
-
 abbrev pub on_tail_ready : ReaderState → ℕ → ℕ → ℕ → ℕ → Row ReaderState
-on_tail_ready r sender view number tail = tail_ready_at r sender view number tail r.stage
+on_tail_ready r sender view number tail = elim r.stage [
+  | Probing force ↦
+      if is_force_of r force view number && is_first r.config.seq sender && is_none force.tail
+      then decides r (with_tail force tail)
+      else stays r
+  | _ ↦ stays r
+]
 
 -- the fetch for the primary of each shard whose part isn't there
 abbrev pub fetch_msg : Fetch → Msg
@@ -295,18 +272,17 @@ fetch_in_turn fetch shard nodes = if lacks_part fetch shard then to_each (in_tur
 
 -- ViewIs: the reader goes on in a later view. A probe begins anew, a fetch asks the primaries of the
 -- shards that it waits for, and a trim the replicas that it waits for, if there are such
-abbrev pub goes_on : ReaderState → Stage → Row ReaderState
-goes_on r Idle = stays r
-goes_on r (Fetching fetch) = sends_all r (each_numbered (fetch_first fetch) 0 r.config.shards)
-goes_on r (Probing force) = probes_all r force.number force.ask
-goes_on r (Trimming trimmer) = if is_trimmed r trimmer then ends_trim r trimmer else sends_all r (trim_sends r trimmer)
-
-abbrev pub reads_in : ReaderState → Config → ReaderState
-reads_in r config = record r { config = config }
+abbrev pub goes_on : ReaderState → Row ReaderState
+goes_on r = elim r.stage [
+  | Idle ↦ stays r
+  | Fetching fetch ↦ sends_all r (each_numbered (fetch_first fetch) 0 r.config.shards)
+  | Probing force ↦ probes_all r force.number force.ask
+  | Trimming trimmer ↦ if is_trim_complete r trimmer then ends_trim r trimmer else sends_all r (trim_sends r trimmer)
+]
 
 abbrev pub on_reader_view_is : ReaderState → Config → Row ReaderState
 on_reader_view_is r config =
-    if nat_lt r.config.view config.view then goes_on (reads_in r config) r.stage else stays r
+    if nat_lt r.config.view config.view then goes_on (record r { config = config }) else stays r
 
 -- Tick, while probing: the probe again for those that haven't acknowledged it, and for the leader also
 -- where its tail is missing
@@ -319,9 +295,9 @@ probes_again r force =
 
 -- Tick, while fetching: the next replica of each shard that is waited for is asked, and where a tail was
 -- told the view's leader is probed again, so that it tells the shards its bound position
-abbrev pub reminds : ReaderState → Fetch → Option ℕ → List (ℕ × Msg)
-reminds r fetch None = []
-reminds r fetch (Some tail) = to_each (first_of r.config.seq) (Probe r.config.view fetch.number)
+abbrev pub reminds : ReaderState → Fetch → List (ℕ × Msg)
+reminds r fetch =
+    if is_some fetch.tail then to_each (first_of r.config.seq) (Probe r.config.view fetch.number) else []
 
 abbrev pub with_turn : Fetch → Fetch
 with_turn fetch = record fetch { turn = fetch.turn + 1 }
@@ -329,37 +305,30 @@ with_turn fetch = record fetch { turn = fetch.turn + 1 }
 abbrev pub fetches_in_turn : ReaderState → Fetch → Row ReaderState
 fetches_in_turn r fetch =
     sends_all (at_stage r (Fetching fetch))
-    (each_numbered (fetch_in_turn fetch) 0 r.config.shards ++ reminds r fetch fetch.tail)
+    (each_numbered (fetch_in_turn fetch) 0 r.config.shards ++ reminds r fetch)
 
-abbrev pub ticks_at : ReaderState → Stage → Row ReaderState
-ticks_at r Idle = stays r
-ticks_at r (Fetching fetch) =
+abbrev pub fetches_again : ReaderState → Fetch → Row ReaderState
+fetches_again r fetch =
     if nat_lt (fetch.turn + 1) (2 ^ 32) then fetches_in_turn r (with_turn fetch) else stays r
-ticks_at r (Probing force) = probes_again r force
-ticks_at r (Trimming trimmer) = sends_all r (trim_sends r trimmer)
 
 abbrev pub on_reader_tick : ReaderState → Row ReaderState
-on_reader_tick r = ticks_at r r.stage
+on_reader_tick r = elim r.stage [
+  | Idle ↦ stays r
+  | Fetching fetch ↦ fetches_again r fetch
+  | Probing force ↦ probes_again r force
+  | Trimming trimmer ↦ sends_all r (trim_sends r trimmer)
+]
 
 -- Ask, where it isn't refused
-abbrev pub asks : ReaderState → Ask → Option BeginRefused → Row ReaderState
-asks r ask None = begins_read r ask
-asks r ask (Some refused) = stays r
-
 abbrev pub on_ask : ReaderState → Ask → Row ReaderState
-on_ask r ask = asks r ask (begin_refusal r ask)
+on_ask r ask = if is_none (begin_refusal r ask) then begins_read r ask else stays r
 
 -- Trim, where it isn't refused; edition One has none
-abbrev pub trims_unless : ReaderState → ℕ → Option TrimRefused → Row ReaderState
-trims_unless r floor None = begins_trim r floor
-trims_unless r floor (Some refused) = stays r
-
-abbrev pub trims_in : Edition → ReaderState → ℕ → Row ReaderState
-trims_in One r floor = stays r
-trims_in Two r floor = trims_unless r floor (trim_refusal r floor)
-
 abbrev pub on_trim_input : ReaderState → ℕ → Row ReaderState
-on_trim_input r floor = trims_in r.shape.edition r floor
+on_trim_input r floor = elim r.shape.edition [
+  | One ↦ stays r
+  | Two ↦ if is_none (trim_refusal r floor) then begins_trim r floor else stays r
+]
 
 -- what a message does, at a reader that it isn't turned away from
 abbrev pub reader_row : ReaderState → ℕ → Msg → Row ReaderState

@@ -1,5 +1,7 @@
-use Rattle.std.specs.Prelude.{ℕ, List, [], ◌∷◌, Bool, false, ◌==◌, Option, slice_get, unwrap_or, position, flat_map}
+use Rattle.std.specs.Prelude.{ℕ, List, [], ◌∷◌, Bool, false, ◌==◌, Option, Some, None, slice_get, unwrap_or, position, flat_map}
 use Rattle.view_config.specs.declared.config.Config.{Config}
+use Rattle.view_config.specs.declared.nodes.Node.TheVariants.{Shard}
+use Rattle.view_config.specs.Shape.{Dimensions, node_of}
 
 -- the node is the first of these
 abbrev pub is_first : List ℕ → ℕ → Bool
@@ -39,3 +41,7 @@ primaries_of config = flat_map first_of config.shards
 -- the shard whose primary the node is
 abbrev pub shard_led_by : Config → ℕ → Option ℕ
 shard_led_by config node = position (λ nodes. is_first nodes node) config.shards
+
+-- the shard that the node is a replica of
+abbrev pub home_of : Dimensions → ℕ → Option ℕ
+home_of shape node = elim (node_of shape node) [ | Some (Shard i j) ↦ Some i | _ ↦ None ]

@@ -1,4 +1,5 @@
-use Rattle.std.specs.Prelude.{ℕ, ◌+◌, ◌^◌, max, List, [], ◌∷◌, ◌++◌, length, filter, flat_map, Bool, true, false, not, ◌&&◌, ◌==◌, nat_le, nat_lt, if◌then◌else◌, Option, Some, None}
+use Rattle.std.specs.Prelude.{ℕ, ◌+◌, ◌^◌, max, List, [], ◌∷◌, ◌++◌, length, filter, flat_map, Bool, true, false, not, ◌&&◌, ◌==◌, nat_le, nat_lt, if◌then◌else◌, Option}
+use Rattle.std.specs.Option.{option_map_or}
 use Rattle.rec_id.specs.Identity.{Identity}
 use Rattle.rec_id.specs.declared.marks.Marks.{Marks}
 use Rattle.view_config.specs.declared.config.Config.{Config}
@@ -62,28 +63,25 @@ abbrev pub on_tick : SeqState → Row SeqState
 on_tick s =
     if is_leading s s.view then followed (sends_all s (flat_map (resends s) s.flight)) begins else stays s
 
--- Placed: a primary's answer is noted
-abbrev pub placed_by : SeqState → ℕ → Option ℕ → Row SeqState
-placed_by s upto None = stays s
-placed_by s upto (Some shard) =
-    followed (passes (record s { flight = with_place s.flight shard upto })) finishes
+-- Placed: the answer of a shard's primary is noted
+abbrev pub notes_place : SeqState → ℕ → ℕ → Row SeqState
+notes_place s upto shard = followed (passes (record s { flight = with_place s.flight shard upto })) finishes
 
 abbrev pub on_placed : SeqState → ℕ → ℕ → ℕ → Row SeqState
 on_placed s sender view upto =
     if not (is_leading s view) then stays s
     else (if not (has_placing s.flight upto) then stays s
-    else placed_by s upto (shard_led_by s.config sender))
+    else option_map_or (notes_place s upto) (shard_led_by s.config sender) (stays s))
 
 -- Ordered: a follower's answer is noted
-abbrev pub ordered_by : SeqState → ℕ → Option ℕ → Row SeqState
-ordered_by s upto None = stays s
-ordered_by s upto (Some follower) = finishes (record s { flight = with_order s.flight follower upto })
+abbrev pub notes_order : SeqState → ℕ → ℕ → Row SeqState
+notes_order s upto follower = finishes (record s { flight = with_order s.flight follower upto })
 
 abbrev pub on_ordered : SeqState → ℕ → ℕ → ℕ → Row SeqState
 on_ordered s sender view upto =
     if not (is_leading s view) then stays s
     else (if not (has_ordering s.flight upto) then stays s
-    else ordered_by s upto (follower_of s.config sender))
+    else option_map_or (notes_order s upto) (follower_of s.config sender) (stays s))
 
 -- the replica once these identities are bound next
 abbrev pub with_bound : SeqState → List Identity → SeqState

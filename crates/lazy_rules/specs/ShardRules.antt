@@ -1,6 +1,6 @@
-use Rattle.std.specs.Prelude.{ℕ, ◌+◌, ◌^◌, max, min, List, [], ◌∷◌, ◌++◌, length, map, find, Bool, true, false, not, ◌&&◌, ◌==◌, nat_le, nat_lt, if◌then◌else◌, Option, Some, None}
+use Rattle.std.specs.Prelude.{ℕ, ◌+◌, ◌^◌, max, min, List, [], ◌∷◌, ◌++◌, length, map, find, Bool, true, false, not, ◌&&◌, ◌==◌, nat_le, nat_lt, if◌then◌else◌, Some, None}
 use Rattle.std.specs.List.{list_any}
-use Rattle.std.specs.Option.{is_some}
+use Rattle.std.specs.Option.{is_some, option_map_or}
 use Rattle.rec_id.specs.Identity.{Identity}
 use Rattle.rec_id.specs.declared.item.Cell.{Cell}
 use Rattle.rec_id.specs.declared.item.Item.{Item}
@@ -57,16 +57,16 @@ first_unplaced s (job ∷ jobs) = job.from
 abbrev pub was_placed : ShardState → ℕ → Bool
 was_placed s upto = not (is_some s.flush) && nat_le upto (first_unplaced s s.jobs)
 
--- Place, of a batch that is being placed: it is pushed again
-abbrev pub places_again : ShardState → ℕ → ℕ → Option PlaceJob → Row ShardState
-places_again s sender upto (Some job) = pushes_place s job
-places_again s sender upto None = if was_placed s upto then answers s sender (Placed s.view upto) else stays s
+abbrev pub answers_placed : ShardState → ℕ → ℕ → Row ShardState
+answers_placed s sender upto = if was_placed s upto then answers s sender (Placed s.view upto) else stays s
 
+-- Place: the next batch is taken, one that is being placed is pushed again, and one before is answered
+-- again
 abbrev pub on_place : ShardState → ℕ → ℕ → ℕ → List Item → Row ShardState
 on_place s sender view from items =
     if not (is_primary s view) then stays s
     else (if takes_place s from then places s sender items
-    else places_again s sender (from + length items) (find (λ job. job.from == from) s.jobs))
+    else option_map_or (pushes_place s) (find (λ job. job.from == from) s.jobs) (answers_placed s sender (from + length items)))
 
 -- Copy: a backup extends its order by what is next, and says again what it has had before
 abbrev pub copies : ShardState → ℕ → List Cell → Row ShardState
@@ -83,12 +83,11 @@ on_copy s sender view from cells =
     else stays s))
 
 -- Copied: a backup is known to have the order up to here
-abbrev pub raised : ℕ → Option ℕ → Option ℕ
-raised upto None = Some upto
-raised upto (Some copied) = Some (max copied upto)
+abbrev pub raised : ℕ → Backup → Backup
+raised upto backup = record backup { copied = Some (option_map_or (λ copied. max copied upto) backup.copied upto) }
 
-abbrev pub raised_at : ℕ → ℕ → Backup → Backup
-raised_at node upto backup = if backup.node == node then record backup { copied = raised upto backup.copied } else backup
+abbrev pub raised_of : ℕ → ℕ → List Backup → List Backup
+raised_of node upto backups = map (λ backup. if backup.node == node then raised upto backup else backup) backups
 
 abbrev pub has_backup : ShardState → ℕ → Bool
 has_backup s node = list_any (λ backup. backup.node == node) s.backups
@@ -98,7 +97,7 @@ on_copied s sender view upto =
     if not (is_primary s view) then stays s
     else (if not (has_backup s sender) then stays s
     else (if not (nat_le upto (length_of s)) then stays s
-    else settles (record s { backups = map (raised_at sender upto) s.backups })))
+    else settles (record s { backups = raised_of sender upto s.backups })))
 
 -- Stable: the order is final up to here, and is claimed on the board
 abbrev pub on_stable : ShardState → ℕ → ℕ → Row ShardState
@@ -125,25 +124,18 @@ fills s sender id bytes place =
 abbrev pub holds : ShardState → ℕ → Identity → List ℕ → Row ShardState
 holds s sender id bytes = answers (with_store s (hold s.store id bytes)) sender (DataAck s.view id)
 
-abbrev pub puts_unless_noop : ShardState → ℕ → Identity → List ℕ → Option ℕ → Row ShardState
-puts_unless_noop s sender id bytes (Some place) = fills s sender id bytes place
-puts_unless_noop s sender id bytes None = holds s sender id bytes
-
-abbrev pub puts : ShardState → ℕ → Identity → List ℕ → Option ℕ → Row ShardState
-puts s sender id bytes (Some place) = finds_noop s sender id bytes place
-puts s sender id bytes None = puts_unless_noop s sender id bytes (open_at s.store id)
-
 abbrev pub on_put : ShardState → ℕ → Identity → List ℕ → Row ShardState
-on_put s sender id bytes = puts s sender id bytes (noop_at s.store id)
+on_put s sender id bytes =
+    option_map_or (finds_noop s sender id bytes) (noop_at s.store id)
+    (option_map_or (fills s sender id bytes) (open_at s.store id) (holds s sender id bytes))
 
 -- Grace: a primary waits no longer for the data of its open cells, the first of which is at this
 -- place
-abbrev pub gives_up : ShardState → Option ℕ → Row ShardState
-gives_up s None = stays s
-gives_up s (Some place) = pushes_above (with_store s (open_to_noop s.store)) place
+abbrev pub gives_up : ShardState → ℕ → Row ShardState
+gives_up s place = pushes_above (with_store s (open_to_noop s.store)) place
 
 abbrev pub on_grace : ShardState → Row ShardState
-on_grace s = if s.primary then gives_up s (first_open s.store) else stays s
+on_grace s = if s.primary then option_map_or (gives_up s) (first_open s.store) (stays s) else stays s
 
 -- Fetch: what is final is told, unless a part of what is asked for was given up
 abbrev pub fetched : ShardState → ℕ → ℕ → ℕ → Msg
@@ -155,8 +147,8 @@ on_fetch s sender read from to =
     else answers s sender (fetched s read from (min to s.store.stable))
 
 -- the order may be cut off from this place on
-abbrev pub is_cut_at : ShardState → ℕ → Bool
-is_cut_at s from = nat_le s.store.stable from && nat_le from (length_of s)
+abbrev pub can_cut : ShardState → ℕ → Bool
+can_cut s from = nat_le s.store.stable from && nat_le from (length_of s)
 
 -- Flush, of a higher view: the replica becomes the primary of that view with the flushed order
 abbrev pub flushed : ShardState → ℕ → Config → ℕ → List Item → ShardState
@@ -170,18 +162,18 @@ flushed s sender config from items = record s {
 }
 
 -- Flush, of the own view: it is pushed again, or answered again where it ended
-abbrev pub flushes_again : ShardState → ℕ → Option FlushJob → Row ShardState
-flushes_again s sender (Some job) = pushes_flush s job
-flushes_again s sender None = if s.primary then answers s sender (Flushed s.view) else stays s
+abbrev pub flushes_again : ShardState → ℕ → Row ShardState
+flushes_again s sender =
+    option_map_or (pushes_flush s) s.flush (if s.primary then answers s sender (Flushed s.view) else stays s)
 
-abbrev pub is_flushed_by : ShardState → Config → ℕ → List Item → Bool
-is_flushed_by s config from items =
-    is_first (replicas_at config s.store.shard) s.node && is_cut_at s from && has_places from (length items)
+abbrev pub takes_flush : ShardState → Config → ℕ → List Item → Bool
+takes_flush s config from items =
+    is_first (replicas_at config s.store.shard) s.node && can_cut s from && has_places from (length items)
 
 abbrev pub on_flush : ShardState → ℕ → Config → ℕ → List Item → Row ShardState
 on_flush s sender config from items =
-    if s.view == config.view then flushes_again s sender s.flush
-    else (if nat_lt s.view config.view && is_flushed_by s config from items
+    if s.view == config.view then flushes_again s sender
+    else (if nat_lt s.view config.view && takes_flush s config from items
     then pushes_flush (flushed s sender config from items) (record { from = from; asker = sender })
     else stays s)
 
@@ -199,7 +191,7 @@ flush_copied s view from cells = record s {
 
 abbrev pub on_flush_copy : ShardState → ℕ → ℕ → ℕ → List Cell → Row ShardState
 on_flush_copy s sender view from cells =
-    if nat_lt s.view view && is_cut_at s from && has_places from (length cells)
+    if nat_lt s.view view && can_cut s from && has_places from (length cells)
     then answers (flush_copied s view from cells) sender (Copied view (from + length cells))
     else (if is_backup s view && nat_le (from + length cells) (length_of s)
     then answers s sender (Copied view (from + length cells))
