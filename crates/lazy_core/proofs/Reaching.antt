@@ -21,7 +21,7 @@ use Rattle.view_config.specs.Shape.{Dimensions}
 use Rattle.lazy_msgs.specs.declared.input.WorldEvent.{WorldEvent}
 use Rattle.lazy_msgs.specs.declared.refused.EventRefused.{EventRefused}
 use Rattle.lazy_rules.specs.ControlState.{ControlState}
-use Rattle.lazy_rules.specs.Holders.{holders, holders_in}
+use Rattle.lazy_rules.specs.Holders.{holders}
 use Rattle.lazy_rules.specs.Lines.{line_told, item_entry, first_stores}
 use Rattle.lazy_rules.specs.Rows.{has_node}
 use Rattle.lazy_rules.specs.SeqState.{SeqState}
@@ -75,7 +75,7 @@ module _ (F : Type 0) (w new : WorldState) (event : WorldEvent) where
 pub holders_same : (w : WorldState) → IsReached w → holders w ≡ holders_of w
 holders_same w r =
     let holds = holds_of w r in
-    ap (λ (k : ControlState). holders_in w k.phase) holds.control
+    ap (λ (k : ControlState). holders (record w { control = k })) holds.control
     ∙ ap (λ (d : Dimensions). holders_of (record w { shape = d })) (sym holds.shaped)
 
 -- the entries that the items of a replica are

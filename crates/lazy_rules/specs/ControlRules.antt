@@ -163,7 +163,7 @@ on_started k sender view = elim k.phase [
 
 -- AskView: the running view is told
 abbrev pub on_ask_view : ControlState → ℕ → Row ControlState
-on_ask_view k sender = elim k.phase [ | Running reign ↦ answers k sender (ViewIs reign.config) | _ ↦ stays k ]
+on_ask_view k sender = elim k.phase [ Running reign ↦ answers k sender (ViewIs reign.config) | _ ↦ stays k ]
 
 -- Tick: what isn't answered is sent again
 abbrev pub not_started : Reign → List ℕ

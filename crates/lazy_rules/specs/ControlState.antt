@@ -78,7 +78,7 @@ latest_started (Flushing taken) = None
 -- how many positions of the log are bound at least: of the taken state, or where the latest started view
 -- began
 abbrev pub base_of : ControlState → ℕ
-base_of k = elim k.phase [ | Flushing taken ↦ taken.from | _ ↦ k.base ]
+base_of k = elim k.phase [ Flushing taken ↦ taken.from | _ ↦ k.base ]
 
 -- the items of the taken state, while there is one
 abbrev pub taken_items : Phase → Option (List Item)

@@ -1,9 +1,11 @@
-use Rattle.std.specs.Prelude.{ℕ, List, [], ◌∷◌, filter, Bool, not, ◌==◌, if◌then◌else◌, Option, Some, None, slice_get}
+use Rattle.std.specs.Prelude.{ℕ, List, [], ◌∷◌, filter, Bool, not, ◌==◌, if◌then◌else◌, Option, Some, None, slice_get, unwrap_or}
+use Rattle.std.specs.Option.{option_map_or}
 use Rattle.rec_id.specs.declared.item.Item.{Item}
+use Rattle.view_config.specs.declared.config.Config.{Config}
 use Rattle.view_config.specs.declared.nodes.Node.{Node}
 use Rattle.view_config.specs.declared.nodes.Node.TheVariants.{Seq}
 use Rattle.view_config.specs.Shape.{node_of}
-use Rattle.lazy_rules.specs.ControlState.{Phase, Running, Sealing, Flushing}
+use Rattle.lazy_rules.specs.ControlState.{ControlState, base_of, latest_started, taken_items}
 use Rattle.lazy_rules.specs.Rows.{has_node}
 use Rattle.lazy_rules.specs.SeqState.{SeqState}
 use Rattle.lazy_rules.specs.WorldState.{WorldState}
@@ -17,25 +19,22 @@ is_alive w node = not (has_node w.crashed node)
 
 -- the holders: the sequencing replicas of the latest started view that aren't crashed, in its order; the
 -- taken state while there is one
-abbrev pub holders_in : WorldState → Phase → List ℕ
-holders_in w (Running reign) = filter (is_alive w) reign.config.seq
-holders_in w (Sealing change) = filter (is_alive w) change.old.seq
-holders_in w (Flushing taken) = taken_state ∷ []
-
 abbrev pub holders : WorldState → List ℕ
-holders w = holders_in w w.control.phase
+holders w =
+    option_map_or (λ config. filter (is_alive w) config.seq) (latest_started w.control.phase) (taken_state ∷ [])
 
 -- what a holder has: how many positions are bound, and the items that follow
 pub record Holding : Type 0 where
   pub bound : ℕ
   pub items : List Item
 
--- a member of the latest started view has its own, or else what the view began with
-abbrev pub member_holding : WorldState → ℕ → Option SeqState → Holding
-member_holding w view None = record { bound = w.control.base; items = [] }
-member_holding w view (Some seq) =
-    if seq.view == view then record { bound = seq.bound; items = seq.pending }
-    else record { bound = w.control.base; items = [] }
+-- what a holder has that has nothing of its own: what the latest started view began with, or the taken state
+abbrev pub shared_holding : ControlState → Holding
+shared_holding k = record { bound = base_of k; items = unwrap_or (taken_items k.phase) [] }
+
+-- a member of a view has its own once it is in that view
+abbrev pub member_holding : Holding → ℕ → SeqState → Holding
+member_holding shared view seq = if seq.view == view then record { bound = seq.bound; items = seq.pending } else shared
 
 -- the sequencing replica of this number
 abbrev pub seq_at : WorldState → Option Node → Option SeqState
@@ -45,10 +44,10 @@ seq_at w _ = None
 abbrev pub seq_numbered : WorldState → ℕ → Option SeqState
 seq_numbered w node = seq_at w (node_of w.shape node)
 
-abbrev pub holding_in : WorldState → ℕ → Phase → Holding
-holding_in w holder (Running reign) = member_holding w reign.config.view (seq_numbered w holder)
-holding_in w holder (Sealing change) = member_holding w change.old.view (seq_numbered w holder)
-holding_in w holder (Flushing taken) = record { bound = taken.from; items = taken.items }
+-- what a holder has, that is a member of this configuration, and what any has
+abbrev pub holding_of : WorldState → ℕ → Config → Holding
+holding_of w holder config =
+    option_map_or (member_holding (shared_holding w.control) config.view) (seq_numbered w holder) (shared_holding w.control)
 
 abbrev pub holding : WorldState → ℕ → Holding
-holding w holder = holding_in w holder w.control.phase
+holding w holder = option_map_or (holding_of w holder) (latest_started w.control.phase) (shared_holding w.control)

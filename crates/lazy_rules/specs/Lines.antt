@@ -1,5 +1,5 @@
-use Rattle.std.specs.Prelude.{◌≡◌, ℕ, ◌+◌, ◌%◌, List, [], ◌∷◌, ◌++◌, map, take, find, position, true, Option, Some, None, option_and_then, slice_get, slice_index_or, Result, Ok, Err}
-use Rattle.std.specs.Option.{is_none}
+use Rattle.std.specs.Prelude.{ℕ, ◌+◌, ◌%◌, List, [], ◌∷◌, ◌++◌, map, take, find, position, Option, Some, None, option_and_then, slice_get, slice_index_or, unwrap_or, Result, Ok, Err}
+use Rattle.std.specs.Option.{is_none, option_map, option_map_or}
 use Rattle.rec_id.specs.Identity.{Identity, shard_of}
 use Rattle.rec_id.specs.declared.entry.Entry.{Entry}
 use Rattle.rec_id.specs.declared.entry.Entry.TheVariants.{Kept as KeptEntry, Noop as NoopEntry, Gone as GoneEntry}
@@ -13,8 +13,7 @@ use Rattle.view_config.specs.declared.nodes.Node.{Node}
 use Rattle.view_config.specs.declared.nodes.Node.TheVariants.{Shard}
 use Rattle.view_config.specs.Shape.{Dimensions, node_of}
 use Rattle.lazy_rules.specs.ControlState.{newest}
-use Rattle.lazy_rules.specs.Holders.{Holding, holders, holding, is_alive}
-use Rattle.lazy_rules.specs.Rows.{has_node}
+use Rattle.lazy_rules.specs.Holders.{Holding, holding, is_alive}
 use Rattle.lazy_rules.specs.ShardState.{ShardState}
 use Rattle.lazy_rules.specs.Store.{Store, bytes_of}
 use Rattle.lazy_rules.specs.WorldState.{WorldState, shard_place}
@@ -35,12 +34,8 @@ abbrev pub shard_at : WorldState → Option Node → Option ShardState
 shard_at w (Some (Shard i j)) = slice_get w.shards (shard_place w.shape i j)
 shard_at w _ = None
 
-abbrev pub store_in : Option ShardState → Option Store
-store_in None = None
-store_in (Some shard) = Some shard.store
-
 abbrev pub store_numbered : WorldState → ℕ → Option Store
-store_numbered w node = store_in (shard_at w (node_of w.shape node))
+store_numbered w node = option_map (λ shard. shard.store) (shard_at w (node_of w.shape node))
 
 -- the stores of the first replicas, by shard
 abbrev pub first_store : WorldState → List ℕ → Option Store
@@ -53,24 +48,15 @@ abbrev pub store_of : List (Option Store) → ℕ → Option Store
 store_of stores shard = slice_index_or stores shard None
 
 -- the shard that a place belongs to: by its number where records go whole, else by its record
-abbrev pub owner_by : Mode → ℕ → ℕ → Identity → ℕ
-owner_by M shards place id = place % shards
-owner_by St shards place id = shard_of id shards
-
 abbrev pub owner_of : Dimensions → ℕ → Identity → ℕ
-owner_of shape place id = owner_by shape.mode shape.shards place id
+owner_of shape place id = elim shape.mode [ M ↦ place % shape.shards | St ↦ shard_of id shape.shards ]
 
--- the order that a store has, and its body at a place; an open one stands for none, and reads as a no-op
-abbrev pub order_in : Option Store → List Cell
-order_in None = []
-order_in (Some store) = store.order
-
-abbrev pub body_in : Option Cell → Body
-body_in None = Open
-body_in (Some cell) = cell.body
+-- the order that a shard has, and its body at a place; an open one stands for none, and reads as a no-op
+abbrev pub order_of : List (Option Store) → ℕ → List Cell
+order_of stores shard = option_map_or (λ store. store.order) (store_of stores shard) []
 
 abbrev pub body_at : List (Option Store) → ℕ → ℕ → Body
-body_at stores shard place = body_in (slice_get (order_in (store_of stores shard)) place)
+body_at stores shard place = option_map_or (λ cell. cell.body) (slice_get (order_of stores shard) place) Open
 
 -- the entry of a bound place: its identity, as the first shard has it, and the body that its own shard has
 abbrev pub entry_of : Identity → Body → Entry
@@ -87,23 +73,18 @@ bound_entries shape stores place [] = []
 bound_entries shape stores place (cell ∷ cells) =
     bound_entry shape stores place cell.id ∷ bound_entries shape stores (place + 1) cells
 
--- the entry of an item that isn't bound: its own bytes where records go whole; else the data that its
--- shard holds or keeps of it, and a no-op where it has none
+-- the data that a shard holds or keeps of a record
+abbrev pub data_of : List (Option Store) → ℕ → Identity → Option (List ℕ)
+data_of stores shard id = option_and_then (λ store. bytes_of store id) (store_of stores shard)
+
+-- the entry of a record with this data, and a no-op where there is none
 abbrev pub entry_with : Identity → Option (List ℕ) → Entry
-entry_with id None = NoopEntry id
-entry_with id (Some bytes) = KeptEntry id bytes
+entry_with id bytes = option_map_or (KeptEntry id) bytes (NoopEntry id)
 
-abbrev pub own_bytes : Option (List ℕ) → List ℕ
-own_bytes None = []
-own_bytes (Some bytes) = bytes
-
-abbrev pub data_in : Option Store → Identity → Option (List ℕ)
-data_in None id = None
-data_in (Some store) id = bytes_of store id
-
+-- the entry of an item that isn't bound: its own bytes where records go whole, else its shard's data
 abbrev pub item_entry_by : Mode → ℕ → List (Option Store) → Item → Entry
-item_entry_by M shards stores item = KeptEntry item.id (own_bytes item.bytes)
-item_entry_by St shards stores item = entry_with item.id (data_in (store_of stores (shard_of item.id shards)) item.id)
+item_entry_by M shards stores item = KeptEntry item.id (unwrap_or item.bytes [])
+item_entry_by St shards stores item = entry_with item.id (data_of stores (shard_of item.id shards) item.id)
 
 abbrev pub item_entry : Dimensions → List (Option Store) → Item → Entry
 item_entry shape stores item = item_entry_by shape.mode shape.shards stores item
@@ -111,7 +92,7 @@ item_entry shape stores item = item_entry_by shape.mode shape.shards stores item
 -- the line of what a holder has, over these stores. The identities are read in the first shard's
 abbrev pub line_over : Dimensions → List (Option Store) → Holding → List Entry
 line_over shape stores held =
-    bound_entries shape stores 0 (take held.bound (order_in (store_of stores 0)))
+    bound_entries shape stores 0 (take held.bound (order_of stores 0))
     ++ map (item_entry shape stores) held.items
 
 -- the line of a holder, of any world
@@ -119,14 +100,5 @@ abbrev pub line_of : WorldState → ℕ → List Entry
 line_of w holder = line_over w.shape (first_stores w) (holding w holder)
 
 -- the line of a holder, or the first shard that has no replica left
-abbrev pub line_unless : List Entry → Option ℕ → Result (List Entry) ℕ
-line_unless line None = Ok line
-line_unless line (Some shard) = Err shard
-
 abbrev pub line_told : WorldState → ℕ → Result (List Entry) ℕ
-line_told w holder = line_unless (line_of w holder) (lost_shard w)
-
--- the holder is there, and its line isn't lost
-pub record IsSpared (w : WorldState) (holder : ℕ) : Type 0 where
-  pub holds : has_node (holders w) holder ≡ true
-  pub kept : lost_shard w ≡ None
+line_told w holder = option_map_or Err (lost_shard w) (Ok (line_of w holder))

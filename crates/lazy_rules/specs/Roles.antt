@@ -44,4 +44,4 @@ shard_led_by config node = position (λ nodes. is_first nodes node) config.shard
 
 -- the shard that the node is a replica of
 abbrev pub home_of : Dimensions → ℕ → Option ℕ
-home_of shape node = elim (node_of shape node) [ | Some (Shard i j) ↦ Some i | _ ↦ None ]
+home_of shape node = elim (node_of shape node) [ Some (Shard i j) ↦ Some i | _ ↦ None ]

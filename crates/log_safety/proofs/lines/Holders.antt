@@ -1,8 +1,8 @@
 -- The line of each holder is lawful.
 use Rattle.lazy_rules.specs.Rows.{has_node}
-use Rattle.std.specs.Option.{is_none}
+use Rattle.std.specs.Option.{is_none, option_map_or}
 use Rattle.std.proofs.Common.{◌≡◌, ℕ, ◌<◌, List, [], ◌∷◌, ◌++◌, map, take, get_or, Option, Some, None, refl, sym, ap, ◌∙◌, subst, arith, true, false, zero, suc, not, ◌≤◌}
-use Rattle.std.specs.Prelude.{◌==◌, if◌then◌else◌, slice_get, Ok}
+use Rattle.std.specs.Prelude.{◌==◌, if◌then◌else◌, slice_get, filter, unwrap_or, Ok, Err}
 use Rattle.std.specs.List.{range_with_len, position}
 use Rattle.std.proofs.lemmas.Option.{get_or_from_slice_get}
 use Rattle.list_facts.specs.Lists.{In, Each, Precedes, Distinct}
@@ -31,29 +31,29 @@ use Rattle.view_config.specs.declared.edition.Mode.{Mode}
 use Rattle.view_config.specs.declared.edition.Mode.TheVariants.{M}
 use Rattle.lazy_msgs.specs.declared.input.WorldEvent.{WorldEvent}
 use Rattle.lazy_rules.specs.ControlState.{ControlState, first_control, newest}
-use Rattle.lazy_rules.specs.Holders.{holders, holders_in, is_alive, holding, holding_in, member_holding, seq_numbered, seq_at, Holding}
+use Rattle.lazy_rules.specs.Holders.{holders, is_alive, holding, member_holding, seq_numbered, seq_at, Holding}
 use Rattle.lazy_rules.specs.Ids.{ids_of}
-use Rattle.lazy_rules.specs.Lines.{line_told, line_unless, line_of, line_over, first_stores, lost_shard, item_entry, item_entry_by, own_bytes, first_alive}
+use Rattle.lazy_rules.specs.Lines.{line_told, line_of, line_over, first_stores, lost_shard, item_entry, item_entry_by, first_alive}
 use Rattle.lazy_rules.specs.SeqState.{SeqState, first_seq, first_view}
 use Rattle.lazy_rules.specs.Store.{Store}
 use Rattle.lazy_rules.specs.WorldState.{WorldState, first_world}
 use Rattle.lazy_rules.specs.WorldRules.{run}
 
 -- a line that is told is the line
-told_line : (line told : List Entry) (lost : Option ℕ) → line_unless line lost ≡ Ok told → line ≡ told
+told_line : (line told : List Entry) (lost : Option ℕ) → option_map_or Err lost (Ok line) ≡ Ok told → line ≡ told
 told_line line told None h = cc
 told_line line told (Some shard) h = cc
 
 -- the entry of an item
 pub item_is : (mode : Mode) (shards : ℕ) (stores : List (Option Store)) (item : Item) (bytes : List ℕ) → mode ≡ M → item.bytes ≡ Some bytes → item_entry_by mode shards stores item ≡ Kept item.id bytes
-item_is M shards stores item bytes is has = ap (λ (b : Option (List ℕ)). Kept item.id (own_bytes b)) has
+item_is M shards stores item bytes is has = ap (λ (b : Option (List ℕ)). Kept item.id (unwrap_or b [])) has
 item_is _ shards stores item bytes is has = cc
 
 module _ (shape : Dimensions) (formed : IsShape shape) (g : Ghost) (w : WorldState) (holds : Holds shape g w) where
   -- a holder is a member of view 1
   pub holder_member : (holder : ℕ) → In holder (holders w) → (i : ℕ) × (i < shape.seq) × (seq_id i ≡ holder)
   holder_member holder h =
-      let listed : In holder (holders_in w (first_control shape).phase) = subst (λ (k : ControlState). In holder (holders_in w k.phase)) holds.control h in
+      let listed : In holder (filter (is_alive w) (initial_config shape).seq) = subst (λ (k : ControlState). In holder (holders (record w { control = k }))) holds.control h in
       let among = in_filter (is_alive w) (initial_config shape).seq holder listed in
       let index = in_mapped seq_id holder (range_with_len 0 shape.seq) among.0 in
       (index.0, in_range_below shape.seq index.0 index.1, index.2)
@@ -89,15 +89,19 @@ module _ (shape : Dimensions) (formed : IsShape shape) (g : Ghost) (w : WorldSta
     abbrev held : Holding
     held = record { bound = 0; items = s.pending }
 
-    member_held : member_holding w 1 (Some s) ≡ held
+    -- what view 1 began with
+    abbrev began : Holding
+    began = record { bound = 0; items = [] }
+
+    member_held : member_holding began 1 s ≡ held
     member_held =
-        ap (λ (v : ℕ). if v == 1 then record { bound = s.bound; items = s.pending } else record { bound = w.control.base; items = [] }) first_viewed
+        ap (λ (v : ℕ). if v == 1 then record { bound = s.bound; items = s.pending } else began) first_viewed
         ∙ ap (λ (b : ℕ). record { bound = b; items = s.pending }) unbound
 
     held_is : holding w (seq_id i) ≡ held
     held_is =
-        ap (λ (k : ControlState). holding_in w (seq_id i) k.phase) holds.control
-        ∙ ap (member_holding w 1) numbered
+        ap (λ (k : ControlState). holding (record w { control = k }) (seq_id i)) holds.control
+        ∙ ap (λ (seq : Option SeqState). option_map_or (member_holding began 1) seq began) numbered
         ∙ member_held
 
     abbrev pub line : List Entry
@@ -147,7 +151,7 @@ module _ (shape : Dimensions) (formed : IsShape shape) (g : Ghost) (w : WorldSta
       (in_each (λ shard. is_none (first_alive w (first_copies shape.copies shard)) ≡ false) (range_with_len 0 shape.shards) (λ shard h. has_alive shard)))
 
   pub told_is : (i : ℕ) (member : i < shape.seq) → line_told w (seq_id i) ≡ Ok (line i member)
-  told_is i member = ap (λ (l : List Entry). line_unless l (lost_shard w)) (line_is i member) ∙ ap (line_unless (line i member)) none_lost
+  told_is i member = ap (λ (l : List Entry). option_map_or Err (lost_shard w) (Ok l)) (line_is i member) ∙ ap (λ (lost : Option ℕ). option_map_or Err lost (Ok (line i member))) none_lost
 
   pub holder_lawful : (holder : ℕ) (told : List Entry) → In holder (holders w) → line_told w holder ≡ Ok told → Lawful w.history told
   holder_lawful holder told h is =
