@@ -70,6 +70,15 @@ pub no_copy_of_an_open_cell : tells (shape_of St 1 1 2 1) (Post 0 (97 ∷ []) �
 }
 no_copy_of_an_open_cell = refl
 
+-- data that comes pushes what ends behind its place, and not the batch that ends there
+pub pushed_above_its_place : sends_of shard_took (first_shard (shape_of St 1 1 2 1) 0 0)
+    ((0, Put (c# 0 1) (97 ∷ [])) ∷ (257, Place 1 0 (bare 0 1 ∷ [])) ∷ (257, Place 1 1 (bare 0 2 ∷ [])) ∷ (0, Put (c# 0 2) (98 ∷ [])) ∷ []) ≡ ((0, DataAck 1 (c# 0 1)) ∷ [])
+    ∷ ((265, Copy 1 0 (cell 0 1 (Kept (97 ∷ [])) ∷ [])) ∷ [])
+    ∷ []
+    ∷ ((0, DataAck 1 (c# 0 2)) ∷ (265, Copy 1 1 (cell 0 2 (Kept (98 ∷ [])) ∷ [])) ∷ [])
+    ∷ []
+pushed_above_its_place = refl
+
 -- a no-op stays one: data that comes before it is final is held and not acknowledged, and after it is
 -- final the append is rejected, as often as it is asked
 abbrev pub gave_up : ShardState

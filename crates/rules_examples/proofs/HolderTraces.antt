@@ -128,6 +128,20 @@ pub data_of_its_own_shard : traces (shape_in One St 1 0 2 1 1)
     }
 data_of_its_own_shard = refl
 
+-- a record that isn't bound is in the line with its data also once its shard has placed it
+pub data_that_is_placed : traces (shape_in One St 1 0 1 1 1)
+    ((Post 0 (97 ∷ []) ∷ flow 1 2 ++ Tick 257 ∷ []) ∷ (Deliver 5 ∷ []) ∷ []) ≡ record {
+      history = Invoke (c# 0 1) (97 ∷ [])
+          ∷ [];
+      messages = 6;
+      events = 5;
+      refused = [];
+      lines = (line_is 257 (Kept (c# 0 1) (97 ∷ []) ∷ []) ∷ [])
+          ∷ (line_is 257 (Kept (c# 0 1) (97 ∷ []) ∷ []) ∷ [])
+          ∷ [];
+    }
+data_that_is_placed = refl
+
 -- a body is read at the first replica that isn't crashed
 pub first_replica_that_is_there : traces (shape_in Two M 1 0 1 2 1)
     ((Post 0 (97 ∷ []) ∷ flow 1 2 ++ Tick 257 ∷ flow 3 6 ++ Ask 0 (Tail 0) ∷ flow 11 7 ++ Crash 264 ∷ Trim 0 1 ∷ Deliver 19 ∷ []) ∷ []) ≡ record {

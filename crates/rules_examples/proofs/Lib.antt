@@ -2,6 +2,9 @@ pub mod Shows
 pub mod Appends
 pub mod Bindings
 pub mod Views
+pub mod SeqRows
+pub mod ShardRows
+pub mod DoorRows
 pub mod Data
 pub mod Clients
 pub mod ClientNodeRows

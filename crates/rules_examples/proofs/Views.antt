@@ -4,7 +4,7 @@ use Rattle.view_config.specs.declared.config.Config.{Config}
 use Rattle.view_config.specs.declared.edition.Edition.TheVariants.{One}
 use Rattle.view_config.specs.declared.edition.Mode.TheVariants.{M, St}
 use Rattle.view_config.specs.Shape.{Dimensions}
-use Rattle.lazy_msgs.specs.declared.msg.Msg.TheVariants.{Append, AppendAck, Put, Place, Placed, Copy, Copied, Order, Stable, Probe, Flush, FlushCopy, Flushed, Seal, Sealed, SealedEmpty, NewView, Started}
+use Rattle.lazy_msgs.specs.declared.msg.Msg.TheVariants.{Append, AppendAck, Put, Place, Placed, Copy, Copied, Order, Stable, Probe, Claim, Flush, FlushCopy, Flushed, Seal, Sealed, SealedEmpty, NewView, Started}
 use Rattle.lazy_rules.specs.SeqRules.{seq_took}
 use Rattle.lazy_rules.specs.SeqState.{first_seq, empty_window}
 use Rattle.lazy_rules.specs.ShardRules.{shard_took}
@@ -52,6 +52,14 @@ pub barred_replica : sends_of seq_took (first_seq with_spare 1)
     ∷ ((256, Started 3) ∷ (264, Stable 3 0) ∷ [])
     ∷ []
 barred_replica = refl
+
+-- the greatest view that was so answered counts, and not the last one
+pub barred_by_the_greatest_view : sends_of seq_took (first_seq with_spare 1)
+    ((256, Seal 3) ∷ (256, Seal 2) ∷ (256, NewView (record { view = 3; seq = 258 ∷ []; shards = (264 ∷ []) ∷ [] }) 0 (empty_window with_spare)) ∷ []) ≡ ((256, SealedEmpty 3) ∷ [])
+    ∷ ((256, SealedEmpty 2) ∷ [])
+    ∷ []
+    ∷ []
+barred_by_the_greatest_view = refl
 
 -- a replica of a new view knows what was known before, begins with nothing pending, and answers a
 -- repeated start without starting again
@@ -108,6 +116,19 @@ pub flushed_order : shard_shown (after_all shard_took (first_shard two_copies 0 
     ∷ (257, Place 1 1 (item 1 1 98 ∷ []))
     ∷ [])) ≡ record { order = cell 0 1 (Kept (97 ∷ [])) ∷ cell 0 2 (Kept (99 ∷ [])) ∷ []; stable = 0 }
 flushed_order = refl
+
+-- what is final isn't cut off: a flush from below it is no row
+pub no_flush_below_the_stable_place : sends_of shard_took (first_shard two_copies 0 1)
+    ((264, Copy 1 0 (cell 0 1 (Kept (97 ∷ [])) ∷ []))
+    ∷ (257, Stable 1 1)
+    ∷ (256, Flush (later_view 2 (265 ∷ [])) 0 (item 1 1 98 ∷ []))
+    ∷ (256, Flush (later_view 2 (265 ∷ [])) 1 (item 1 1 98 ∷ []))
+    ∷ []) ≡ ((264, Copied 1 1) ∷ [])
+    ∷ ((296, Claim 1) ∷ [])
+    ∷ []
+    ∷ ((256, Flushed 2) ∷ [])
+    ∷ []
+no_flush_below_the_stable_place = refl
 
 -- a flush with a backup ends once the backup has it; what a backup answered in an older view is
 -- forgotten
