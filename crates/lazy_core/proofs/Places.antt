@@ -1,3 +1,4 @@
+-- The place of an unfinished append in the list of a client.
 use Rattle.std.proofs.Common.{◌≡◌, ℕ, [], Some, get_or, ◌==◌}
 use Rattle.std.specs.List.{slice_get}
 use Rattle.std.proofs.lemmas.Bool.{eqb-true}

@@ -16,8 +16,8 @@ use Rattle.lazy_rules.specs.SeqRules.{seq_took, on_append, with_item}
 use Rattle.lazy_core.specs.Early.{IsDue, IsInFirstView}
 
 -- an append that isn't turned away is of a client of the shape
-pub let_in : (shape : Dimensions) (from view : ℕ) (id : Identity) (bytes : Option (List ℕ)) → is_turned_away shape from (Append view id bytes) ≡ false → id.client < shape.clients
-let_in shape from view id bytes h = grind (arith, nat_tests)
+pub let_in : (shape : Dimensions) (sender view : ℕ) (id : Identity) (bytes : Option (List ℕ)) → is_turned_away shape sender (Append view id bytes) ≡ false → id.client < shape.clients
+let_in shape sender view id bytes h = grind (arith, nat_tests)
 
 -- what a replica's step on an append leaves: its shape stays, and what it sends is due
 pub record Leaves (shape : Dimensions) (row : Row SeqState) : Type 0 where
@@ -37,11 +37,11 @@ leaves_on_append : (shape : Dimensions) (s : SeqState) (view : ℕ) (id : Identi
 leaves_on_append shape s view id bytes h within =
     search (either (Leaves shape), leaves_stays shape s h, leaves_ack shape s view id h within, leaves_ack shape (with_item s id bytes) view id h within)
 
-pub append_leaves : (shape : Dimensions) (s : SeqState) (from view : ℕ) (id : Identity) (bytes : Option (List ℕ)) → s.shape ≡ shape → Leaves shape (seq_took s from (Append view id bytes))
-append_leaves shape s from view id bytes h =
-    either (Leaves shape) (is_turned_away s.shape from (Append view id bytes)) (stays s) (on_append s view id bytes)
+pub append_leaves : (shape : Dimensions) (s : SeqState) (sender view : ℕ) (id : Identity) (bytes : Option (List ℕ)) → s.shape ≡ shape → Leaves shape (seq_took s sender (Append view id bytes))
+append_leaves shape s sender view id bytes h =
+    either (Leaves shape) (is_turned_away s.shape sender (Append view id bytes)) (stays s) (on_append s view id bytes)
     (λ e. leaves_stays shape s h)
-    (λ e. leaves_on_append shape s view id bytes h (rw (← h) (let_in s.shape from view id bytes e)))
+    (λ e. leaves_on_append shape s view id bytes h (rw (← h) (let_in s.shape sender view id bytes e)))
 
 -- what a client's step on an acknowledgement leaves: it stays in view 1, and sends nothing
 pub record Notes (shape : Dimensions) (row : Row ClientState) : Type 0 where
@@ -57,12 +57,12 @@ notes_advances shape c i append h =
     (λ e. record { first = record { shaped = h.shaped; first = h.first }; silent = refl })
     (λ e. record { first = record { shaped = h.shaped; first = h.first }; silent = refl })
 
-notes_on_ack : (shape : Dimensions) (c : ClientState) (from view : ℕ) (id : Identity) → IsInFirstView shape c → Notes shape (on_append_ack c from view id)
-notes_on_ack shape c from view id h =
-    search (either (Notes shape), some_or_none {A = ℕ} (Notes shape), some_or_none {A = OpenAppend} (Notes shape), notes_stays shape c h, λ (i : ℕ) (append : OpenAppend). notes_advances shape c i (noted append from) h) depth 12
+notes_on_ack : (shape : Dimensions) (c : ClientState) (sender view : ℕ) (id : Identity) → IsInFirstView shape c → Notes shape (on_append_ack c sender view id)
+notes_on_ack shape c sender view id h =
+    search (either (Notes shape), some_or_none {A = ℕ} (Notes shape), some_or_none {A = OpenAppend} (Notes shape), notes_stays shape c h, λ (i : ℕ) (append : OpenAppend). notes_advances shape c i (noted append sender) h) depth 12
 
-pub ack_notes : (shape : Dimensions) (c : ClientState) (from view : ℕ) (id : Identity) → IsInFirstView shape c → Notes shape (client_took c from (AppendAck view id))
-ack_notes shape c from view id h =
-    either (Notes shape) (is_turned_away c.shape from (AppendAck view id)) (stays c) (on_append_ack c from view id)
+pub ack_notes : (shape : Dimensions) (c : ClientState) (sender view : ℕ) (id : Identity) → IsInFirstView shape c → Notes shape (client_took c sender (AppendAck view id))
+ack_notes shape c sender view id h =
+    either (Notes shape) (is_turned_away c.shape sender (AppendAck view id)) (stays c) (on_append_ack c sender view id)
     (λ e. notes_stays shape c h)
-    (λ e. notes_on_ack shape c from view id h)
+    (λ e. notes_on_ack shape c sender view id h)

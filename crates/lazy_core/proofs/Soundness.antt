@@ -1,3 +1,4 @@
+-- A world is sound at first, and stays so.
 use Rattle.std.proofs.Common.{◌≡◌, ℕ, ◌+◌, ◌<◌, ◌≤◌, List, [], length, map, All, replicate, refl, arith, slice_index, slice_set}
 use Rattle.std.specs.List.{range_with_len}
 use Rattle.std.proofs.lemmas.List.{length-replicate, length-set}
@@ -66,9 +67,9 @@ pub time_past : (w : WorldState) (node : ℕ) → IsSound w → node < length w.
 time_past w node h there = All-get_or (λ (time : ℕ). time ≤ w.events) w.times node 0 there h.times_past
 
 -- what is sent at a step is early, where it is due
-pub early_enveloped : (shape : Dimensions) (from time events : ℕ) (sends : List (ℕ × Msg)) → time ≤ events → All (λ send. IsDue shape send.0 send.1) sends → All (IsEarly shape events) (enveloped from time sends)
-early_enveloped shape from time events sends past due =
-    All-map (IsEarly shape events) (λ (send : ℕ × Msg). record { from = from; to = send.0; time = time; msg = send.1 }) sends
+pub early_enveloped : (shape : Dimensions) (sender time events : ℕ) (sends : List (ℕ × Msg)) → time ≤ events → All (λ send. IsDue shape send.0 send.1) sends → All (IsEarly shape events) (enveloped sender time sends)
+early_enveloped shape sender time events sends past due =
+    All-map (IsEarly shape events) (λ (send : ℕ × Msg). record { from = sender; to = send.0; time = time; msg = send.1 }) sends
     (λ k d h. record { past = past; due = due k d h })
 
 -- a step whose messages are due keeps a world sound

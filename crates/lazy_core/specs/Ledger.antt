@@ -1,8 +1,10 @@
-use Rattle.std.specs.Prelude.{◌≡◌, ℕ, ◌+◌, ◌++◌, List, max, slice_index, slice_set}
+use Rattle.std.specs.Prelude.{◌≡◌, ℕ, ◌+◌, ◌-◌, ◌++◌, List, [], max, slice_index, slice_set}
 use Rattle.rec_id.specs.declared.event.Event.{Event}
 use Rattle.lazy_msgs.specs.declared.msg.Envelope.{Envelope}
 use Rattle.lazy_msgs.specs.declared.msg.Msg.{Msg}
-use Rattle.lazy_rules.specs.WorldRules.{enveloped}
+use Rattle.lazy_msgs.specs.Outbox.{Out}
+use Rattle.lazy_rules.specs.WorldRules.{enveloped, sent_weight}
+use Rattle.lazy_rules.specs.declared.limits.TheConstants.{WEIGHT_LIMIT}
 
 -- what happened in a world, and for how many messages and events more there is memory
 pub record LedgerState : Type 0 where
@@ -19,6 +21,10 @@ pub record Keeps (before after : LedgerState) : Type 0 where
   pub sent : after.sent ≡ before.sent
   pub history : after.history ≡ before.history
   pub events : after.events ≡ before.events
+
+-- an outbox for a step that sends so many messages at most
+abbrev pub outbox_for : LedgerState → ℕ → Out
+outbox_for ledger room = record { sends = []; events = []; messages_left = room; weight_left = WEIGHT_LIMIT - sent_weight ledger.sent }
 
 -- the time of a step of this node that receives a message of this time
 abbrev pub time_of_step : LedgerState → ℕ → ℕ → ℕ

@@ -10,7 +10,7 @@ ghost use Rattle.lazy_rules.specs.ClientState.{OpenAppend as Unfinished};
 ghost use Rattle.lazy_rules.specs.Rows.{has_node};
 ghost use Rattle.std.specs.List.{list_all, list_any};
 ghost use Rattle.rec_id.specs.declared.event.Event.TheVariants.{Acked};
-ghost use Rattle.lazy_core.specs.AppendState.{append_state};
+ghost use Rattle.lazy_core.specs.AppendState.{AdvancesAt, append_state, finishes_at, with_acked};
 
 use crate::sending::{data_for, record_for};
 use lazy_msgs::{Outbox, PostRefused, SendList, StepRefused};
@@ -75,12 +75,13 @@ pub struct AppendClient {
 impl Model for AppendClient {
     ghost use Rattle.std.specs.Prelude.{◌<◌, ◌≤◌};
     ghost use Rattle.lazy_rules.specs.ClientState.{ClientState};
+    ghost use Rattle.view_config.specs.declared.limits.TheConstants.{MAX_CLIENTS};
 
     ghost Value = { ClientState };
 
     ghost view = { λ a. record { shape = a.shape; client = a.client; config = a.config; next = a.next; unfinished = a.unfinished.items } };
 
-    ghost invariant = { λ a. (a.client < a.shape.clients) × (1 ≤ a.next) × (1 ≤ a.shape.shards) × (a.shape.clients ≤ 256) };
+    ghost invariant = { λ a. (a.client < a.shape.clients) × (1 ≤ a.next) × (1 ≤ a.shape.shards) × (a.shape.clients ≤ MAX_CLIENTS) };
 }
 
 impl AppendClient {
@@ -89,6 +90,7 @@ impl AppendClient {
         requires { client < shape.now.clients }
         ensures { IfOk result (λ made. made ≡ first_client shape.now client) }
     {
+        // Contracts know the limits of a shape behind a reference once one of its fields is read.
         let _within_limits = &shape.clients;
         Ok(AppendClient {
             shape: *shape,
@@ -116,7 +118,7 @@ impl AppendClient {
         if size > self.shape.edition.record_limit() {
             return Some(PostRefused::TooLong);
         }
-        if self.next == 4_294_967_295 {
+        if self.next == u32::MAX {
             return Some(PostRefused::NumbersSpent);
         }
         let low = self.lowest();
@@ -256,7 +258,7 @@ impl AppendClient {
     /// The append at this place, whose identity is `id`, is finished.
     fn finish(&mut self, place: usize, id: RecordId, out: &mut Outbox) -> Result<(), StepRefused>
         requires { place < length self.old.unfinished }
-        ensures { StepsTo (record { next = record self.old { unfinished = remove self.old.unfinished place }; sends = []; events = Acked id ∷ [] }) self.old self.new out.old out.new result StepRefused.Over }
+        ensures { StepsTo (finishes_at self.old place id) self.old self.new out.old out.new result StepRefused.Over }
     {
         let alloc = *self.unfinished.allocator();
         let mut events = Sequence::new(alloc);
@@ -269,7 +271,7 @@ impl AppendClient {
     /// These nodes have acknowledged the append at this place.
     fn note(&mut self, place: usize, acked: NodeList)
         requires { place < length self.old.unfinished }
-        ensures { (append : Unfinished) → slice_get self.old.unfinished place ≡ Some append → self.new ≡ record self.old { unfinished = slice_set self.old.unfinished place (record append { acked = acked }) } }
+        ensures { (append : Unfinished) → slice_get self.old.unfinished place ≡ Some append → self.new ≡ with_acked self.old place append acked }
     {
         let append = &mut self.unfinished[place];
         append.acked = acked;
@@ -288,15 +290,15 @@ impl AppendClient {
     fn acknowledge(
         &mut self,
         place: usize,
-        from: u32,
+        sender: u32,
         id: RecordId,
         out: &mut Outbox,
     ) -> Result<(), StepRefused>
         requires there { place < length self.old.unfinished }
         requires own { id ≡ id_of self.old id.number }
-        ensures { (append : Unfinished) → slice_get self.old.unfinished place ≡ Some append → append.number ≡ id.number → StepsTo (advances self.old place (noted append from)) self.old self.new out.old out.new result StepRefused.Over }
+        ensures { AdvancesAt self.old place id sender (λ row. StepsTo row self.old self.new out.old out.new result StepRefused.Over) }
     {
-        let acked = self.acked_with(place, from)?;
+        let acked = self.acked_with(place, sender)?;
         if self.is_complete(id, acked.as_slice()) {
             self.finish(place, id, out)?;
         } else {
@@ -306,13 +308,18 @@ impl AppendClient {
     }
 
     /// The append of this client that has the identity `id` was acknowledged by one node more.
-    fn acknowledged(&mut self, from: u32, id: RecordId, out: &mut Outbox) -> Result<(), StepRefused>
+    fn acknowledged(
+        &mut self,
+        sender: u32,
+        id: RecordId,
+        out: &mut Outbox,
+    ) -> Result<(), StepRefused>
         requires { id ≡ id_of self.old id.number }
-        ensures { StepsTo (notes self.old from id.number) self.old self.new out.old out.new result StepRefused.Over }
+        ensures { StepsTo (notes self.old sender id.number) self.old self.new out.old out.new result StepRefused.Over }
     {
         let number = id.number();
         match self.place_of(number) {
-            Some(place) => self.acknowledge(place, from, id, out),
+            Some(place) => self.acknowledge(place, sender, id, out),
             None => Ok(()),
         }
     }
@@ -320,12 +327,12 @@ impl AppendClient {
     /// Takes an acknowledgement that isn't turned away.
     fn on_append_ack(
         &mut self,
-        from: u32,
+        sender: u32,
         view: u32,
         id: RecordId,
         out: &mut Outbox,
     ) -> Result<(), StepRefused>
-        ensures { StepsTo (on_append_ack self.old from view id) self.old self.new out.old out.new result StepRefused.Over }
+        ensures { StepsTo (on_append_ack self.old sender view id) self.old self.new out.old out.new result StepRefused.Over }
     {
         if view != self.config.view {
             return Ok(());
@@ -333,28 +340,28 @@ impl AppendClient {
         if id.client() != self.client {
             return Ok(());
         }
-        if !self.config.seq.as_slice().contains(&from) {
+        if !self.config.seq.as_slice().contains(&sender) {
             return Ok(());
         }
-        self.acknowledged(from, id, out)
+        self.acknowledged(sender, id, out)
     }
 
     /// Takes an acknowledgement of a sequencing replica.
     pub fn append_ack(
         &mut self,
-        from: u32,
+        sender: u32,
         view: u32,
         id: RecordId,
         out: &mut Outbox,
     ) -> Result<(), StepRefused>
-        ensures { StepsTo (client_took self.old from (AppendAck view id)) self.old self.new out.old out.new result StepRefused.Over }
+        ensures { StepsTo (client_took self.old sender (AppendAck view id)) self.old self.new out.old out.new result StepRefused.Over }
     {
-        if self.shape.node(from).is_none() {
+        if self.shape.node(sender).is_none() {
             return Ok(());
         }
         if id.client() >= self.shape.clients {
             return Ok(());
         }
-        self.on_append_ack(from, view, id, out)
+        self.on_append_ack(sender, view, id, out)
     }
 }

@@ -2,19 +2,14 @@
 //!
 //! A post and a delivery have their bodies here, in Erwin-m.
 
-ghost use Rattle.std.specs.Prelude.{◌≡◌, ◌+◌, ◌-◌, ◌<◌, ◌≤◌, ◌^◌, length, slice_get, Some, None};
+ghost use Rattle.std.specs.Prelude.{◌≡◌, ◌+◌, ◌<◌, ◌≤◌, ◌^◌, length, Some};
 ghost use Rattle.view_config.specs.declared.edition.Mode.TheVariants.{M};
-ghost use Rattle.lazy_rules.specs.ClientState.{ClientState};
-ghost use Rattle.lazy_rules.specs.ClientRules.{invokes, post_refusal, client_took};
-ghost use Rattle.lazy_rules.specs.SeqState.{SeqState};
-ghost use Rattle.lazy_rules.specs.SeqRules.{seq_took};
-ghost use Rattle.view_config.specs.Shape.{node_of};
 ghost use Rattle.lazy_msgs.specs.declared.input.WorldEvent.TheVariants.{Post, Deliver};
 ghost use Rattle.lazy_msgs.specs.declared.msg.Msg.TheVariants.{Append, AppendAck};
+ghost use Rattle.lazy_rules.specs.WorldRules.{delivered, delivery_refused};
 ghost use Rattle.log_safety.specs.Built.{IsBuilt};
 ghost use Rattle.lazy_core.specs.Early.{IsSeqNode, IsEarly};
-ghost use Rattle.lazy_rules.specs.WorldRules.{IsWithinLimits, after, refusal, received, delivery_to_refused, client_did, seq_did, posting_refused};
-ghost use Rattle.lazy_core.specs.Happens.{HappensIn, IsWithinRoom};
+ghost use Rattle.lazy_core.specs.Happens.{ClientTakesWithin, Happens, HappensWithin, PostsWithin, SeqTakesWithin, StepsWithin};
 
 use crate::nodes::Nodes;
 use lazy_msgs::{Envelope, EventRefused, Msg, WorldEvent};
@@ -28,13 +23,13 @@ const FIRST_ROOM: u32 = 64;
 const ROOM_GROWTH: u32 = 16;
 
 impl Nodes {
-    /// A client of the shape, which isn't crashed, appends `bytes`.
-    fn take_post(&mut self, c: u32, bytes: &Bytes, room: u32) -> Result<(), EventRefused>
+    /// `bytes` are posted to a client of the shape, which isn't crashed.
+    fn post_to_client(&mut self, c: u32, bytes: &Bytes, room: u32) -> Result<(), EventRefused>
         requires there { c < length self.old.clients }
         requires mode { self.old.shape.mode ≡ M }
         requires countable { self.old.events + 1 < 2 ^ 32 }
         requires room { length self.old.sent + room ≤ MESSAGES_LIMIT }
-        ensures { (client : ClientState) → slice_get self.old.clients c ≡ Some client → HappensIn (IsWithinRoom room self.old (client_did self.old c 0 (invokes client bytes.now))) (client_did self.old c 0 (invokes client bytes.now)) (posting_refused (post_refusal client (length bytes.now))) self.old self.new result }
+        ensures { PostsWithin room c bytes.now self.old self.new result }
     {
         let bytes = bytes.clone()?;
         let mut out = self.ledger.outbox(room)?;
@@ -44,8 +39,8 @@ impl Nodes {
         Ok(())
     }
 
-    /// The replica that an append is for takes it.
-    fn take_append(
+    /// An append is delivered to the sequencing replica that it is for.
+    fn deliver_to_seq(
         &mut self,
         envelope: &Envelope,
         view: u32,
@@ -57,7 +52,7 @@ impl Nodes {
         requires past { envelope.now.time ≤ self.old.events }
         requires countable { self.old.events + 1 < 2 ^ 32 }
         requires room { length self.old.sent + room ≤ MESSAGES_LIMIT }
-        ensures { (seq : SeqState) → slice_get self.old.seqs (envelope.now.to - FIRST_SEQ) ≡ Some seq → HappensIn (IsWithinRoom room self.old (seq_did self.old envelope.now.to (envelope.now.to - FIRST_SEQ) envelope.now.time (seq_took seq envelope.now.from (Append view id bytes.now)))) (seq_did self.old envelope.now.to (envelope.now.to - FIRST_SEQ) envelope.now.time (seq_took seq envelope.now.from (Append view id bytes.now))) None self.old self.new result }
+        ensures { SeqTakesWithin room envelope.now (Append view id bytes.now) self.old self.new result }
     {
         let mut out = self.ledger.outbox(room)?;
         let index = (envelope.to - FIRST_SEQ) as usize;
@@ -67,8 +62,8 @@ impl Nodes {
         Ok(())
     }
 
-    /// The client that an acknowledgement is for takes it.
-    fn take_append_ack(
+    /// An acknowledgement is delivered to the client that it is for.
+    fn deliver_to_client(
         &mut self,
         envelope: &Envelope,
         view: u32,
@@ -79,7 +74,7 @@ impl Nodes {
         requires past { envelope.now.time ≤ self.old.events }
         requires countable { self.old.events + 1 < 2 ^ 32 }
         requires room { length self.old.sent + room ≤ MESSAGES_LIMIT }
-        ensures { (client : ClientState) → slice_get self.old.clients envelope.now.to ≡ Some client → HappensIn (IsWithinRoom room self.old (client_did self.old envelope.now.to envelope.now.time (client_took client envelope.now.from (AppendAck view id)))) (client_did self.old envelope.now.to envelope.now.time (client_took client envelope.now.from (AppendAck view id))) None self.old self.new result }
+        ensures { ClientTakesWithin room envelope.now (AppendAck view id) self.old self.new result }
     {
         let mut out = self.ledger.outbox(room)?;
         let client = &mut self.clients[envelope.to as usize];
@@ -88,12 +83,12 @@ impl Nodes {
         Ok(())
     }
 
-    /// Client `c` appends `bytes`.
+    /// `bytes` are posted to client `c`.
     fn post(&mut self, c: u32, bytes: &Bytes, room: u32) -> Result<(), EventRefused>
         requires mode { self.old.shape.mode ≡ M }
         requires countable { self.old.events + 1 < 2 ^ 32 }
         requires room { length self.old.sent + room ≤ MESSAGES_LIMIT }
-        ensures { HappensIn (IsWithinRoom room self.old (after self.old (Post c bytes.now))) (after self.old (Post c bytes.now)) (refusal self.old (Post c bytes.now)) self.old self.new result }
+        ensures { HappensWithin room (Post c bytes.now) self.old self.new result }
     {
         if c as usize >= self.clients.len() {
             return Err(EventRefused::NoNode(c));
@@ -101,22 +96,29 @@ impl Nodes {
         if self.crashed.contains(&c) {
             return Err(EventRefused::Crashed(c));
         }
-        self.take_post(c, bytes, room)
+        self.post_to_client(c, bytes, room)
     }
 
-    /// The node that message `k` is for takes it.
-    fn receive(&mut self, k: u32, envelope: &Envelope, room: u32) -> Result<(), EventRefused>
+    /// Message `k` is delivered to the node that it is for, unless that is crashed.
+    fn deliver_to_node(
+        &mut self,
+        k: u32,
+        envelope: &Envelope,
+        room: u32,
+    ) -> Result<(), EventRefused>
         requires early { IsEarly self.old.shape self.old.events envelope.now }
         requires countable { self.old.events + 1 < 2 ^ 32 }
         requires room { length self.old.sent + room ≤ MESSAGES_LIMIT }
-        ensures { HappensIn (IsWithinRoom room self.old (received self.old envelope.now (node_of self.old.shape envelope.now.to))) (received self.old envelope.now (node_of self.old.shape envelope.now.to)) (delivery_to_refused self.old k envelope.now.to envelope.now.msg) self.old self.new result }
+        ensures { StepsWithin room (delivered self.old (Some envelope.now)) (delivery_refused self.old k (Some envelope.now)) self.old self.new result }
     {
         if self.crashed.contains(&envelope.to) {
             return Err(EventRefused::Crashed(envelope.to));
         }
         match &envelope.msg {
-            Msg::Append { view, id, bytes } => self.take_append(envelope, *view, *id, bytes, room),
-            Msg::AppendAck { view, id } => self.take_append_ack(envelope, *view, *id, room),
+            Msg::Append { view, id, bytes } => self.deliver_to_seq(
+                envelope, *view, *id, bytes, room,
+            ),
+            Msg::AppendAck { view, id } => self.deliver_to_client(envelope, *view, *id, room),
             _ => unreachable!(),
         }
     }
@@ -125,13 +127,13 @@ impl Nodes {
     fn deliver(&mut self, k: u32, room: u32) -> Result<(), EventRefused>
         requires countable { self.old.events + 1 < 2 ^ 32 }
         requires room { length self.old.sent + room ≤ MESSAGES_LIMIT }
-        ensures { HappensIn (IsWithinRoom room self.old (after self.old (Deliver k))) (after self.old (Deliver k)) (refusal self.old (Deliver k)) self.old self.new result }
+        ensures { HappensWithin room (Deliver k) self.old self.new result }
     {
         let Some(envelope) = self.ledger.message(k) else {
             return Err(EventRefused::NoMessage(k));
         };
         let envelope = envelope.copy()?;
-        self.receive(k, &envelope, room)
+        self.deliver_to_node(k, &envelope, room)
     }
 
     /// The event, if it sends no more than so many messages; spent, if it would send more.
@@ -139,7 +141,7 @@ impl Nodes {
         requires built { IsBuilt self.old.shape event.now }
         requires countable { self.old.events + 1 < 2 ^ 32 }
         requires room { length self.old.sent + room ≤ MESSAGES_LIMIT }
-        ensures { HappensIn (IsWithinRoom room self.old (after self.old event.now)) (after self.old event.now) (refusal self.old event.now) self.old self.new result }
+        ensures { HappensWithin room event.now self.old self.new result }
     {
         match event {
             WorldEvent::Post(c, bytes) => self.post(*c, bytes, room),
@@ -154,7 +156,7 @@ impl Nodes {
     pub(crate) fn event(&mut self, event: &WorldEvent) -> Result<(), EventRefused>
         requires built { IsBuilt self.old.shape event.now }
         requires countable { self.old.events + 1 < 2 ^ 32 }
-        ensures { HappensIn (IsWithinLimits (after self.old event.now)) (after self.old event.now) (refusal self.old event.now) self.old self.new result }
+        ensures { Happens event.now self.old self.new result }
     {
         let left = MESSAGES_LIMIT - self.sent();
         let mut room = FIRST_ROOM;

@@ -6,7 +6,7 @@
 ghost use Rattle.std.specs.Prelude.{◌≡◌, ◌+◌, ◌-◌, ◌^◌, ◌<◌, ◌≤◌, ◌++◌, [], length, max, replicate, slice_index, slice_set, vec_len, vec_capacity, IfOk, OnOk, option_copied};
 ghost use Rattle.lazy_msgs.specs.Weight.{sends_weight};
 ghost use Rattle.lazy_rules.specs.WorldRules.{enveloped, sent_weight, envelope_at};
-ghost use Rattle.lazy_core.specs.Ledger.{LedgerState, Keeps, Adds};
+ghost use Rattle.lazy_core.specs.Ledger.{LedgerState, Keeps, Adds, outbox_for};
 ghost use Rattle.view_config.specs.Nodes.{node_count};
 
 use lazy_msgs::{Envelope, Outbox, SendList};
@@ -57,13 +57,13 @@ fn raise_time(times: &mut Vec<u64>, node: usize, received: u64) -> u64
 }
 
 /// Puts messages in their envelopes behind those sent before.
-fn add_sends(sent: &mut Vec<Envelope>, from: u32, time: u64, sends: SendList)
+fn add_sends(sent: &mut Vec<Envelope>, sender: u32, time: u64, sends: SendList)
     requires { vec_len sent.old + length sends ≤ vec_capacity sent.old }
-    ensures { sent.new.items ≡ sent.old.items ++ enveloped from time sends }
+    ensures { sent.new.items ≡ sent.old.items ++ enveloped sender time sends }
 {
     for (to, msg) in sends.into_vec() {
         sent.push_reserved(Envelope {
-            from,
+            from: sender,
             to,
             time,
             msg,
@@ -138,7 +138,7 @@ impl Ledger {
     /// Makes room for a step that sends so many messages at most, and an outbox for it.
     pub(crate) fn outbox(&mut self, room: u32) -> Result<Outbox, AllocError>
         ensures kept { Keeps self.old self.new }
-        ensures outbox { IfOk result (λ out. out ≡ record { sends = []; events = []; messages_left = room; weight_left = WEIGHT_LIMIT - sent_weight self.old.sent }) }
+        ensures outbox { IfOk result (λ out. out ≡ outbox_for self.old room) }
         ensures messages { OnOk result (room ≤ self.new.message_room) }
         ensures events { OnOk result (2 ≤ self.new.event_room) }
     {

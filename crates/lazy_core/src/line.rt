@@ -82,8 +82,7 @@ impl Nodes {
         ensures line { (seq : SeqState) → slice_get self.now.seqs (holder - FIRST_SEQ) ≡ Some seq → IfOk result (λ line. line ≡ line_of seq) }
         ensures never_lost { IfErr result (λ e. e ≡ LineError.Memory) }
     {
-        let line = self.unbound_line(holder)?;
-        Ok(line)
+        Ok(self.unbound_line(holder)?)
     }
 
     /// What this sequencing replica has, none of which is bound.

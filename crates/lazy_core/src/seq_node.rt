@@ -7,19 +7,14 @@ ghost use Rattle.lazy_rules.specs.Rows.{answers};
 ghost use Rattle.lazy_rules.specs.SeqState.{first_seq};
 ghost use Rattle.lazy_rules.specs.SeqRules.{is_active, has_room, with_item, on_append, seq_took};
 
-use lazy_msgs::{Msg, Outbox, StepRefused};
+use lazy_msgs::{Msg, Outbox, PENDING_LIMIT, StepRefused};
+use lazy_rules::POSITION_LIMIT;
 use plain_lists::Sequence;
 use rec_id::{Bytes, Item, RecordId, copy_optional};
 use seen_window::SeenWindow;
 use std::alloc::{AllocError, Global};
 use std::marker::Model;
 use view_config::{Config, Shape, seq_id};
-
-/// How many items a replica holds unbound.
-const PENDING_LIMIT: usize = 4_096;
-
-/// A replica takes nothing new at or above this position.
-const POSITION_LIMIT: usize = 61_440;
 
 /// What one sequencing replica knows and keeps.
 #[derive(Drop)]
@@ -109,10 +104,10 @@ impl SeqNode {
     fn has_room(&self) -> bool
         ensures { result ≡ has_room self.now }
     {
-        if self.pending.len() >= PENDING_LIMIT {
+        if self.pending.len() >= PENDING_LIMIT as usize {
             return false;
         }
-        self.bound as usize + self.pending.len() < POSITION_LIMIT
+        self.bound as usize + self.pending.len() < POSITION_LIMIT as usize
     }
 
     /// Acknowledges an append.
@@ -168,15 +163,15 @@ impl SeqNode {
     /// Takes an append of a client.
     pub fn append(
         &mut self,
-        from: u32,
+        sender: u32,
         view: u32,
         id: RecordId,
         bytes: &Option<Bytes>,
         out: &mut Outbox,
     ) -> Result<(), StepRefused>
-        ensures { StepsTo (seq_took self.old from (Append view id bytes.now)) self.old self.new out.old out.new result StepRefused.Over }
+        ensures { StepsTo (seq_took self.old sender (Append view id bytes.now)) self.old self.new out.old out.new result StepRefused.Over }
     {
-        if self.shape.node(from).is_none() {
+        if self.shape.node(sender).is_none() {
             return Ok(());
         }
         if id.client() >= self.shape.clients {

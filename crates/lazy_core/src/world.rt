@@ -12,9 +12,9 @@ ghost use Rattle.lazy_rules.specs.Holders.{holders};
 ghost use Rattle.lazy_rules.specs.Lines.{line_told};
 ghost use Rattle.lazy_rules.specs.Rows.{has_node};
 ghost use Rattle.lazy_rules.specs.WorldState.{first_world};
-ghost use Rattle.lazy_rules.specs.WorldRules.{IsWithinLimits, after, message_at, refusal, run};
+ghost use Rattle.lazy_rules.specs.WorldRules.{message_at};
 ghost use Rattle.log_safety.specs.Built.{IsBuilt};
-ghost use Rattle.lazy_core.specs.Happens.{HappensIn};
+ghost use Rattle.lazy_core.specs.Happens.{Happens};
 ghost use Rattle.lazy_core.specs.Reached.{Appends, IsReached};
 ghost use Rattle.lazy_core.specs.declared.line.LineError.{LineError};
 
@@ -61,7 +61,7 @@ impl World {
         requires built { IsBuilt self.old.shape event.now }
         requires countable { self.old.events + 1 < 2 ^ 32 }
         ensures appends { Appends event.now self.old self.new result }
-        ensures happens { HappensIn (IsWithinLimits (after self.old event.now)) (after self.old event.now) (refusal self.old event.now) self.old self.new result }
+        ensures happens { Happens event.now self.old self.new result }
     {
         self.nodes.event(event)
     }

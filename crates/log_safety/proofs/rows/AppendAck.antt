@@ -48,8 +48,8 @@ module _ (shape : Dimensions) (g : Ghost) (a : Parts) (c : ℕ) (there : c < sha
   pub good_stays : GoodClient shape g a c (stays k)
   good_stays = record { agreed = subst (Agreed shape g) (sym untold) agreed; said = tt }
 
-  -- an acknowledgement of an open append, from a member that says so
-  module _ (from : ℕ) (i : ℕ) (append : OpenAppend) (at : slice_get k.unfinished i ≡ Some append) (listed : has_node k.config.seq from ≡ true) (says : AckSays shape g a from k.config.view (id_of k append.number)) where
+  -- an acknowledgement of an open append, sender a member that says so
+  module _ (sender : ℕ) (i : ℕ) (append : OpenAppend) (at : slice_get k.unfinished i ≡ Some append) (listed : has_node k.config.seq sender ≡ true) (says : AckSays shape g a sender k.config.view (id_of k append.number)) where
     abbrev id : Identity
     id = id_of k append.number
 
@@ -57,10 +57,10 @@ module _ (shape : Dimensions) (g : Ghost) (a : Parts) (c : ℕ) (there : c < sha
     open_facts = each_at (OpenFacts shape g a k) k.unfinished facts.opened i append at
 
     abbrev known : OpenAppend
-    known = noted append from
+    known = noted append sender
 
     all_say : Each (λ node. AckSays shape g a node k.config.view id) known.acked
-    all_say = either (Each (λ node. AckSays shape g a node k.config.view id)) (has_node append.acked from) append.acked (append.acked ++ from ∷ []) (λ h. open_facts.noted) (λ h. each_append (λ node. AckSays shape g a node k.config.view id) append.acked (from ∷ []) open_facts.noted (says, tt))
+    all_say = either (Each (λ node. AckSays shape g a node k.config.view id)) (has_node append.acked sender) append.acked (append.acked ++ sender ∷ []) (λ h. open_facts.noted) (λ h. each_append (λ node. AckSays shape g a node k.config.view id) append.acked (sender ∷ []) open_facts.noted (says, tt))
 
     -- it is noted
     abbrev k_noted : ClientState
@@ -242,18 +242,18 @@ module _ (shape : Dimensions) (g : Ghost) (a : Parts) (c : ℕ) (there : c < sha
     good_known = either (GoodClient shape g a c) (is_complete k known) (finishes k i known) (stays k_noted) (λ complete. good_ends complete) (λ h. good_noted)
 
   -- the row
-  module _ (from view : ℕ) (id : Identity) (says : AckSays shape g a from view id) where
+  module _ (sender view : ℕ) (id : Identity) (says : AckSays shape g a sender view id) where
     numbered : (i : ℕ) (append : OpenAppend) → place_of k id.number ≡ Some i → slice_get k.unfinished i ≡ Some append → append.number ≡ id.number
     numbered i append place at =
         let found = position-Some (λ (other : OpenAppend). other.number == id.number) k.unfinished i append place in
         eqb-true append.number id.number (ap (λ (x : OpenAppend). x.number == id.number) (sym (get_or_from_slice_get k.unfinished i append append at)) ∙ found.1)
 
-    pub good_ack : GoodClient shape g a c (on_append_ack k from view id)
+    pub good_ack : GoodClient shape g a c (on_append_ack k sender view id)
     good_ack = search (either (GoodClient shape g a c), some_or_none {A = ℕ} (GoodClient shape g a c), some_or_none {A = OpenAppend} (GoodClient shape g a c), good_stays, tried) depth 12
       where
-        tried : not (view == k.config.view) ≡ false → not (id.client == k.client) ≡ false → not (has_node k.config.seq from) ≡ false → (i : ℕ) → place_of k id.number ≡ Some i → (append : OpenAppend) → slice_get k.unfinished i ≡ Some append → GoodClient shape g a c (advances k i (noted append from))
+        tried : not (view == k.config.view) ≡ false → not (id.client == k.client) ≡ false → not (has_node k.config.seq sender) ≡ false → (i : ℕ) → place_of k id.number ≡ Some i → (append : OpenAppend) → slice_get k.unfinished i ≡ Some append → GoodClient shape g a c (advances k i (noted append sender))
         tried viewed own listed i place append at =
             let in_view = eqb-true view k.config.view (not-false (view == k.config.view) viewed) in
             let of_client = eqb-true id.client k.client (not-false (id.client == k.client) own) in
             let same : id ≡ id_of k append.number = ap (λ (n : ℕ). record { client = n; number = id.number }) of_client ∙ ap (λ (n : ℕ). id_of k n) (sym (numbered i append place at)) in
-            good_known from i append at (not-false (has_node k.config.seq from) listed) (subst (λ (n : ℕ). AckSays shape g a from n (id_of k append.number)) in_view (subst (λ (x : Identity). AckSays shape g a from view x) same says))
+            good_known sender i append at (not-false (has_node k.config.seq sender) listed) (subst (λ (n : ℕ). AckSays shape g a sender n (id_of k append.number)) in_view (subst (λ (x : Identity). AckSays shape g a sender view x) same says))

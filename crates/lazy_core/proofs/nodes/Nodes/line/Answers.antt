@@ -1,4 +1,4 @@
-use Rattle.lazy_core.proofs.Holding.{holder_is}
+use Rattle.lazy_core.proofs.Holders.{holder_is}
 use Rattle.lazy_core.proofs.nodes.Nodes.line.Goals as goal
 
 pub unbound_line-requires : goal.unbound_line-requires

@@ -3,7 +3,7 @@ use Rattle.lazy_rules.specs.Rows.{has_node}
 use Rattle.lazy_rules.specs.WorldState.{WorldState}
 use Rattle.lazy_core.specs.Early.{IsSound}
 use Rattle.lazy_core.specs.WorldView.{world_of}
-use Rattle.lazy_core.proofs.Dispatch.{crashed_post, post_received}
+use Rattle.lazy_core.proofs.Addressees.{crashed_post, post_received}
 use Rattle.lazy_core.proofs.nodes.Nodes.post.Goals as goal
 
 pub returns-then-contains : goal.returns-then-contains
@@ -18,7 +18,7 @@ returns c =
     let w = world_of c.self.inside in
     let below : c.args.c < length w.clients = omega (arith, c.len.ensures, c.if-c-len.false) in
     let alive : has_node w.crashed c.args.c ≡ false = rw (← c.deref.ensures.value) (sym c.contains.ensures.value ∙ c.if-contains.false) in
-    post_received c.args.self.now c.take_post.new.self c.args.c c.args.room c.args.bytes.now c.take_post.result (subst IsSound c.self.view_is c.self.invariant)
+    post_received c.args.self.now c.post_to_client.new.self c.args.c c.args.room c.args.bytes.now c.post_to_client.result (subst IsSound c.self.view_is c.self.invariant)
     (subst (λ (v : WorldState). c.args.c < length v.clients) c.self.view_is below)
     (subst (λ (v : WorldState). has_node v.crashed c.args.c ≡ false) c.self.view_is alive)
-    c.take_post.ensures
+    c.post_to_client.ensures

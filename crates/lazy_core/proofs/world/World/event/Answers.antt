@@ -3,7 +3,7 @@ use Rattle.log_safety.specs.Built.{IsBuilt}
 use Rattle.lazy_rules.specs.WorldRules.{IsWithinLimits, after}
 use Rattle.lazy_rules.specs.WorldState.{WorldState}
 use Rattle.lazy_core.specs.Reached.{Appends}
-use Rattle.lazy_core.proofs.Reaching.{reached_after, appends_after}
+use Rattle.lazy_core.proofs.ReachedWorlds.{reached_after, appends_after}
 use Rattle.lazy_core.proofs.world.World.event.Goals as goal
 
 pub invariant_of-self : goal.invariant_of-self

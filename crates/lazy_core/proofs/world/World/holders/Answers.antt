@@ -1,7 +1,7 @@
 use Rattle.std.proofs.Common.{◌≡◌, List, ℕ, ◌∙◌, sym, subst, ap}
 use Rattle.std.specs.Prelude.{IfOk}
 use Rattle.lazy_rules.specs.Holders.{holders}
-use Rattle.lazy_core.proofs.Reaching.{holders_same}
+use Rattle.lazy_core.proofs.ReachedWorlds.{holders_same}
 use Rattle.lazy_core.proofs.world.World.holders.Goals as goal
 
 pub returns : goal.returns

@@ -5,7 +5,7 @@ use Rattle.lazy_rules.specs.Holders.{holders}
 use Rattle.lazy_rules.specs.Lines.{line_told}
 use Rattle.lazy_rules.specs.Rows.{has_node}
 use Rattle.lazy_rules.specs.WorldState.{WorldState}
-use Rattle.lazy_core.proofs.Reaching.{holders_same, line_same, line_lawful}
+use Rattle.lazy_core.proofs.ReachedWorlds.{holders_same, line_same, line_lawful}
 use Rattle.lazy_core.proofs.world.World.line.Goals as goal
 
 pub line-requires : goal.line-requires

@@ -4,9 +4,9 @@ use Rattle.lazy_rules.specs.ClientState.{ClientState}
 use Rattle.lazy_rules.specs.ClientRules.{client_took}
 use Rattle.lazy_rules.specs.WorldState.{WorldState}
 use Rattle.lazy_core.specs.WorldView.{world_of}
-use Rattle.lazy_core.proofs.Keeping.{ack_sound}
-use Rattle.lazy_core.proofs.Receiving.{client_refused, client_happened, client_made, client_within}
-use Rattle.lazy_core.proofs.nodes.Nodes.take_append_ack.Goals as goal
+use Rattle.lazy_core.proofs.SoundSteps.{ack_sound}
+use Rattle.lazy_core.proofs.NodeSteps.{client_refused, client_happened, client_made, client_within}
+use Rattle.lazy_core.proofs.nodes.Nodes.deliver_to_client.Goals as goal
 use Rattle.lazy_rules.specs.declared.limits.TheConstants.{MESSAGES_LIMIT}
 
 pub returns-in_err-append_ack : goal.returns-in_err-append_ack

@@ -1,3 +1,4 @@
+-- A holder is a sequencing replica of the shape.
 use Rattle.std.proofs.Common.{◌≡◌, ℕ, List, not, true, ◌==◌, ◌∙◌, All, subst}
 use Rattle.std.proofs.lemmas.Bool.{eqb-true}
 use Rattle.std.proofs.lemmas.List.Elements.{All-filter}
@@ -6,7 +7,7 @@ use Rattle.view_config.specs.Config.{first_seqs}
 use Rattle.lazy_rules.specs.Rows.{has_node}
 use Rattle.lazy_rules.specs.WorldState.{WorldState}
 use Rattle.lazy_core.specs.Early.{IsSeqNode, holders_of}
-use Rattle.lazy_core.proofs.Due.{seqs_due}
+use Rattle.lazy_core.proofs.DueMessages.{seqs_due}
 
 -- what holds of all nodes of a list holds of one that is in it
 pub all_has : (P : ℕ → Type 0) (nodes : List ℕ) (node : ℕ) → All P nodes → has_node nodes node ≡ true → P node

@@ -30,6 +30,7 @@ use Rattle.lazy_rules.specs.WorldRules.{after, accepted, happened, refusal, run}
 use Rattle.lazy_core.specs.Early.{holders_of, line_of, entry_of, bytes_of}
 use Rattle.lazy_core.specs.Happens.{HappensIn}
 use Rattle.lazy_core.specs.Reached.{Appends, AreAccepted, IsReached}
+use Rattle.view_config.specs.declared.nodes.TheConstants.{FIRST_SEQ}
 
 abbrev no_ghost : Ghost
 no_ghost = record { line = [] }
@@ -107,10 +108,10 @@ module _ (w : WorldState) (r : IsReached w) (holder : ℕ) (there : has_node (ho
   abbrev replica : SeqState
   replica = seq_held r.shape r.formed no_ghost w holds member.0 member.1
 
-  here : slice_get w.seqs (holder - 257) ≡ Some replica
+  here : slice_get w.seqs (holder - FIRST_SEQ) ≡ Some replica
   here =
       let numbered : seq_id member.0 ≡ holder = member.2 in
-      let index : holder - 257 ≡ member.0 = omega arith in
+      let index : holder - FIRST_SEQ ≡ member.0 = omega arith in
       rw index (is_here r.shape r.formed no_ghost w holds member.0 member.1)
 
   told : line_told w holder ≡ Ok (line_of replica)
@@ -120,8 +121,8 @@ module _ (w : WorldState) (r : IsReached w) (holder : ℕ) (there : has_node (ho
       ∙ ap (λ (l : List Entry). Ok l) (entries_same w r replica.pending (facts r.shape r.formed no_ghost w holds member.0 member.1).items)
 
   -- a line that is the replica's own is what the rules tell, and lawful
-  pub line_same : {E : Type 0} (outcome : Result (List Entry) E) → ((seq : SeqState) → slice_get w.seqs (holder - 257) ≡ Some seq → IfOk outcome (λ line. line ≡ line_of seq)) → IfOk outcome (λ line. line_told w holder ≡ Ok line)
+  pub line_same : {E : Type 0} (outcome : Result (List Entry) E) → ((seq : SeqState) → slice_get w.seqs (holder - FIRST_SEQ) ≡ Some seq → IfOk outcome (λ line. line ≡ line_of seq)) → IfOk outcome (λ line. line_told w holder ≡ Ok line)
   line_same outcome own = if_ok outcome (λ line. line ≡ line_of replica) (λ line. line_told w holder ≡ Ok line) (λ line is. told ∙ ap (λ (l : List Entry). Ok l) (sym is)) (own replica here)
 
-  pub line_lawful : {E : Type 0} (outcome : Result (List Entry) E) → ((seq : SeqState) → slice_get w.seqs (holder - 257) ≡ Some seq → IfOk outcome (λ line. line ≡ line_of seq)) → IfOk outcome (λ line. Lawful w.history line)
+  pub line_lawful : {E : Type 0} (outcome : Result (List Entry) E) → ((seq : SeqState) → slice_get w.seqs (holder - FIRST_SEQ) ≡ Some seq → IfOk outcome (λ line. line ≡ line_of seq)) → IfOk outcome (λ line. Lawful w.history line)
   line_lawful outcome own = if_ok outcome (λ line. line ≡ line_of replica) (λ line. Lawful w.history line) (λ line is. holder_lawful r.shape r.formed no_ghost w holds holder line among (told ∙ ap (λ (l : List Entry). Ok l) (sym is))) (own replica here)

@@ -1,3 +1,4 @@
+-- What a client in view 1 sends is due at the nodes that it goes to.
 use Rattle.std.proofs.Common.{◌≡◌, ℕ, ◌<◌, [], not, All, ap, ◌∙◌, arith}
 use Rattle.std.specs.List.{range_with_len}
 use Rattle.std.proofs.lemmas.List.Elements.{All-map, All-filter, All-same}

@@ -5,23 +5,24 @@ use Rattle.lazy_rules.specs.SeqRules.{seq_took}
 use Rattle.lazy_rules.specs.WorldState.{WorldState}
 use Rattle.lazy_core.specs.Early.{IsSeqNode}
 use Rattle.lazy_core.specs.WorldView.{world_of}
-use Rattle.lazy_core.proofs.Keeping.{append_sound}
-use Rattle.lazy_core.proofs.Receiving.{seq_refused, seq_happened, seq_made, seq_within}
-use Rattle.lazy_core.proofs.nodes.Nodes.take_append.Goals as goal
+use Rattle.lazy_core.proofs.SoundSteps.{append_sound}
+use Rattle.lazy_core.proofs.NodeSteps.{seq_refused, seq_happened, seq_made, seq_within}
+use Rattle.lazy_core.proofs.nodes.Nodes.deliver_to_seq.Goals as goal
 use Rattle.lazy_rules.specs.declared.limits.TheConstants.{MESSAGES_LIMIT}
+use Rattle.view_config.specs.declared.nodes.TheConstants.{FIRST_SEQ}
 
 pub returns-in_err-append : goal.returns-in_err-append
 returns-in_err-append c =
     rw (← c.self.view_is)
     (λ seq there.
-    seq_refused (world_of c.self.inside) c.args.envelope.now.to (c.args.envelope.now.to - 257) c.args.room c.args.envelope.now.time (λ (s : SeqState). seq_took s c.args.envelope.now.from (Append c.args.view c.args.id c.args.bytes.now)) seq c.index_mut-seq.result.now c.append.new.self c.in_ok-out.out c.append.new.out c.self.inside.ledger c.outbox.new.self c.from_residual-in_err-append.result c.in_err-append.field-0.0
+    seq_refused (world_of c.self.inside) c.args.envelope.now.to (c.args.envelope.now.to - FIRST_SEQ) c.args.room c.args.envelope.now.time (λ (s : SeqState). seq_took s c.args.envelope.now.from (Append c.args.view c.args.id c.args.bytes.now)) seq c.index_mut-seq.result.now c.append.new.self c.in_ok-out.out c.append.new.out c.self.inside.ledger c.outbox.new.self c.from_residual-in_err-append.result c.in_err-append.field-0.0
     there c.index_mut-seq.ensures.value c.in_ok-out.ensures.outbox c.in_err-append.ensures refl refl refl refl c.outbox.ensures.kept c.from_residual-in_err-append.ensures.1)
 
 pub invariant_of-self-2 : goal.invariant_of-self-2
 invariant_of-self-2 c =
     let w = world_of c.self.inside in
     let node = c.args.envelope.now.to in
-    let i : ℕ = node - 257 in
+    let i : ℕ = node - FIRST_SEQ in
     let received = c.args.envelope.now.time in
     let held = c.index_mut-seq.result.now in
     let row = seq_took held c.args.envelope.now.from (Append c.args.view c.args.id c.args.bytes.now) in
@@ -39,5 +40,5 @@ pub returns : goal.returns
 returns c =
     rw (← c.self.view_is)
     (λ seq there.
-    seq_happened (world_of c.self.inside) c.args.envelope.now.to (c.args.envelope.now.to - 257) c.args.room c.args.envelope.now.time (λ (s : SeqState). seq_took s c.args.envelope.now.from (Append c.args.view c.args.id c.args.bytes.now)) seq c.index_mut-seq.result.now c.append.new.self c.in_ok-out.out c.append.new.out c.self.inside.ledger c.outbox.new.self c.enter.new.self
+    seq_happened (world_of c.self.inside) c.args.envelope.now.to (c.args.envelope.now.to - FIRST_SEQ) c.args.room c.args.envelope.now.time (λ (s : SeqState). seq_took s c.args.envelope.now.from (Append c.args.view c.args.id c.args.bytes.now)) seq c.index_mut-seq.result.now c.append.new.self c.in_ok-out.out c.append.new.out c.self.inside.ledger c.outbox.new.self c.enter.new.self
     there c.index_mut-seq.ensures.value c.in_ok-out.ensures.outbox c.in_ok-append.ensures c.self.invariant.within.in_weight refl refl refl refl c.outbox.ensures.kept c.enter.ensures)

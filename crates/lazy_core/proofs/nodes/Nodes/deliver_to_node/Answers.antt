@@ -3,8 +3,8 @@ use Rattle.lazy_msgs.specs.declared.msg.Msg.{Msg}
 use Rattle.lazy_rules.specs.Rows.{has_node}
 use Rattle.lazy_rules.specs.WorldState.{WorldState}
 use Rattle.lazy_core.specs.Early.{IsSound, IsDue}
-use Rattle.lazy_core.proofs.Dispatch.{crashed_received, append_received, ack_received}
-use Rattle.lazy_core.proofs.nodes.Nodes.receive.Goals as goal
+use Rattle.lazy_core.proofs.Addressees.{crashed_received, append_received, ack_received}
+use Rattle.lazy_core.proofs.nodes.Nodes.deliver_to_node.Goals as goal
 
 pub returns-then-contains : goal.returns-then-contains
 returns-then-contains c =
@@ -15,17 +15,17 @@ returns-then-contains c =
 pub returns-in-Append : goal.returns-in-Append
 returns-in-Append c =
     let alive : has_node c.self.inside.crashed.items c.args.envelope.now.to ≡ false = rw (← c.deref.ensures.value) (sym c.contains.ensures.value ∙ c.if-contains.false) in
-    append_received c.args.self.now c.take_append.new.self c.args.k c.args.room c.args.envelope.now c.in-Append.view c.in-Append.id c.in-Append.bytes c.take_append.result
+    append_received c.args.self.now c.deliver_to_seq.new.self c.args.k c.args.room c.args.envelope.now c.in-Append.view c.in-Append.id c.in-Append.bytes c.deliver_to_seq.result
     (subst IsSound c.self.view_is c.self.invariant) c.in-Append.is
     (subst (λ (msg : Msg). IsDue c.args.self.now.shape c.args.envelope.now.to msg) c.in-Append.is c.requires.early.due)
     (subst (λ (w : WorldState). has_node w.crashed c.args.envelope.now.to ≡ false) c.self.view_is alive)
-    c.take_append.ensures
+    c.deliver_to_seq.ensures
 
 pub returns-in-AppendAck : goal.returns-in-AppendAck
 returns-in-AppendAck c =
     let alive : has_node c.self.inside.crashed.items c.args.envelope.now.to ≡ false = rw (← c.deref.ensures.value) (sym c.contains.ensures.value ∙ c.if-contains.false) in
-    ack_received c.args.self.now c.take_append_ack.new.self c.args.k c.args.room c.args.envelope.now c.in-AppendAck.view c.in-AppendAck.id c.take_append_ack.result
+    ack_received c.args.self.now c.deliver_to_client.new.self c.args.k c.args.room c.args.envelope.now c.in-AppendAck.view c.in-AppendAck.id c.deliver_to_client.result
     (subst IsSound c.self.view_is c.self.invariant) c.in-AppendAck.is
     (subst (λ (msg : Msg). IsDue c.args.self.now.shape c.args.envelope.now.to msg) c.in-AppendAck.is c.requires.early.due)
     (subst (λ (w : WorldState). has_node w.crashed c.args.envelope.now.to ≡ false) c.self.view_is alive)
-    c.take_append_ack.ensures
+    c.deliver_to_client.ensures

@@ -1,3 +1,4 @@
+-- Whose step an event is: the node that it is for takes it, or the event is refused.
 use Rattle.std.proofs.Common.{◌≡◌, ◌≢◌, ℕ, zero, suc, ◌-◌, ◌<◌, List, [], ◌∷◌, length, Bool, true, false, ◌==◌, All, Option, Result, None, Some, Err, refl, subst, arith, if◌then◌else◌}
 use Rattle.std.specs.List.{slice_get}
 use Rattle.std.proofs.lemmas.Bool.Decides.{nat_tests}
@@ -20,6 +21,7 @@ use Rattle.lazy_rules.specs.WorldState.{WorldState}
 use Rattle.lazy_rules.specs.WorldRules.{received, client_did, seq_did, posted, post_refused_at, posting_refused, delivery_to_refused, message_at}
 use Rattle.lazy_core.specs.Early.{IsSound, IsSeqNode, IsDue, IsEarly}
 use Rattle.lazy_core.specs.Happens.{HappensIn, IsWithinRoom}
+use Rattle.view_config.specs.declared.nodes.TheConstants.{FIRST_SEQ}
 
 -- a refusal for the reason that the rules give
 pub refused_as : (F : Type 0) (next : WorldState) (reason : Option EventRefused) (w : WorldState) (e : EventRefused) → reason ≡ Some e → e ≢ Spent → HappensIn F next reason w w (Err e)
@@ -50,7 +52,7 @@ message_early w k envelope h is =
     all_at (IsEarly w.shape w.events) w.sent (k - 1) envelope h.sent_early (behind_test (k == 0) (slice_get w.sent (k - 1)) envelope is)
 
 -- the node of a sequencing replica's number
-pub seq_node : (shape : Dimensions) (to : ℕ) → IsShape shape → IsSeqNode shape to → node_of shape to ≡ Some (Seq (to - 257))
+pub seq_node : (shape : Dimensions) (to : ℕ) → IsShape shape → IsSeqNode shape to → node_of shape to ≡ Some (Seq (to - FIRST_SEQ))
 seq_node shape to valid due = grind (arith, nat_tests, valid.clients_most, due.least, due.most)
 
 -- the node of a client's number
@@ -58,10 +60,10 @@ pub client_node : (shape : Dimensions) (to : ℕ) → to < shape.clients → nod
 client_node shape to there = grind (arith, nat_tests)
 
 -- an append, taken by the replica that it is for, is what the rules give for its message
-pub append_received : (w after : WorldState) (k room : ℕ) (envelope : Envelope) (view : ℕ) (id : Identity) (bytes : Option (List ℕ)) (result : Result (Unit {0}) EventRefused) → IsSound w → envelope.msg ≡ Append view id bytes → IsSeqNode w.shape envelope.to → has_node w.crashed envelope.to ≡ false → ((seq : SeqState) → slice_get w.seqs (envelope.to - 257) ≡ Some seq → HappensIn (IsWithinRoom room w (seq_did w envelope.to (envelope.to - 257) envelope.time (seq_took seq envelope.from (Append view id bytes)))) (seq_did w envelope.to (envelope.to - 257) envelope.time (seq_took seq envelope.from (Append view id bytes))) None w after result) → HappensIn (IsWithinRoom room w (received w envelope (node_of w.shape envelope.to))) (received w envelope (node_of w.shape envelope.to)) (delivery_to_refused w k envelope.to envelope.msg) w after result
+pub append_received : (w after : WorldState) (k room : ℕ) (envelope : Envelope) (view : ℕ) (id : Identity) (bytes : Option (List ℕ)) (result : Result (Unit {0}) EventRefused) → IsSound w → envelope.msg ≡ Append view id bytes → IsSeqNode w.shape envelope.to → has_node w.crashed envelope.to ≡ false → ((seq : SeqState) → slice_get w.seqs (envelope.to - FIRST_SEQ) ≡ Some seq → HappensIn (IsWithinRoom room w (seq_did w envelope.to (envelope.to - FIRST_SEQ) envelope.time (seq_took seq envelope.from (Append view id bytes)))) (seq_did w envelope.to (envelope.to - FIRST_SEQ) envelope.time (seq_took seq envelope.from (Append view id bytes))) None w after result) → HappensIn (IsWithinRoom room w (received w envelope (node_of w.shape envelope.to))) (received w envelope (node_of w.shape envelope.to)) (delivery_to_refused w k envelope.to envelope.msg) w after result
 append_received w after k room envelope view id bytes result h is due alive took =
-    let below : envelope.to - 257 < length w.seqs = rw h.seq_count (omega (arith, due.least, due.most)) in
-    let there = slice_get-get_or w.seqs (envelope.to - 257) (first_seq w.shape 0) below in
+    let below : envelope.to - FIRST_SEQ < length w.seqs = rw h.seq_count (omega (arith, due.least, due.most)) in
+    let there = slice_get-get_or w.seqs (envelope.to - FIRST_SEQ) (first_seq w.shape 0) below in
     rw (is, seq_node w.shape envelope.to h.shaped due, there, alive) (took _ there)
 
 -- likewise an acknowledgement, taken by its client

@@ -1,3 +1,4 @@
+-- What a post that a client took, or refused, is to its world.
 use Rattle.std.proofs.Common.{◌≡◌, ◌≢◌, ℕ, ◌+◌, ◌<◌, ◌≤◌, List, length, Result, None, Some, Ok, Err, refl, ap, subst, ◌∙◌, arith, get_or}
 use Rattle.std.specs.List.{slice_get}
 use Rattle.std.specs.Result.{IsErrAnd}
@@ -18,9 +19,9 @@ use Rattle.lazy_rules.specs.WorldRules.{client_did, posting_refused, step_time, 
 use Rattle.lazy_core.specs.Early.{IsSound, IsInFirstView}
 use Rattle.lazy_core.specs.Happens.{HappensIn, IsWithinRoom}
 use Rattle.lazy_core.specs.Ledger.{LedgerState, Keeps, Adds}
-use Rattle.lazy_core.proofs.Due.{sending_due}
+use Rattle.lazy_core.proofs.DueMessages.{sending_due}
 use Rattle.lazy_core.proofs.Soundness.{sound_client, sound_stepped}
-use Rattle.lazy_core.proofs.Steps.{room_for, room_from_fits, fits_from_room, refused_post, happened_so, made_client_did, err_is, held_there, client_kept}
+use Rattle.lazy_core.proofs.StepOutcomes.{room_for, room_from_fits, fits_from_room, refused_post, happened_so, made_client_did, err_is, held_there, client_kept}
 use Rattle.lazy_rules.specs.declared.limits.TheConstants.{MESSAGES_LIMIT, WEIGHT_LIMIT}
 
 -- the world after a post

@@ -1,3 +1,4 @@
+-- What a node's step on a message is to its world. `row` is the rule.
 use Rattle.std.proofs.Common.{◌≡◌, ℕ, ◌≤◌, Result, None, Some, Ok, Err, refl, ap, subst, ◌∙◌, get_or}
 use Rattle.std.specs.List.{slice_get}
 use Rattle.std.specs.Result.{IsErrAnd}
@@ -14,10 +15,8 @@ use Rattle.lazy_rules.specs.WorldState.{WorldState}
 use Rattle.lazy_rules.specs.WorldRules.{client_did, seq_did, step_time, sent_weight}
 use Rattle.lazy_core.specs.Happens.{HappensIn, IsWithinRoom}
 use Rattle.lazy_core.specs.Ledger.{LedgerState, Keeps, Adds}
-use Rattle.lazy_core.proofs.Steps.{room_for, room_from_fits, fits_from_room, refused_step, happened_so, made_client_did, made_seq_did, err_is, held_there, client_kept, seq_kept}
+use Rattle.lazy_core.proofs.StepOutcomes.{room_for, room_from_fits, fits_from_room, refused_step, happened_so, made_client_did, made_seq_did, err_is, held_there, client_kept, seq_kept}
 use Rattle.lazy_rules.specs.declared.limits.TheConstants.{WEIGHT_LIMIT}
-
--- What a node's step on a message is to its world. `row` is the rule.
 
 -- a client's step that was refused changes nothing
 pub client_refused : (w : WorldState) (c room received : ℕ) (row : ClientState → Row ClientState) (client held after : ClientState) (out out_after : Out) (before ledger : LedgerState) (result : Result (Unit {0}) EventRefused) (e : StepRefused) → slice_get w.clients c ≡ Some client → held ≡ get_or w.clients c held → out ≡ room_for w room → StepsTo {R = Unit {0}} (row held) held after out out_after (Err e) Over → before.times ≡ w.times → before.sent ≡ w.sent → before.history ≡ w.history → before.events ≡ w.events → Keeps before ledger → IsErrAnd result (λ x. x ≡ event_step_refused e) → HappensIn (IsWithinRoom room w (client_did w c received (row client))) (client_did w c received (row client)) None w (record w { clients = set w.clients c after; times = ledger.times; sent = ledger.sent; history = ledger.history; events = ledger.events }) result

@@ -1,3 +1,4 @@
+-- The outcomes of a step: what it sends is within the room and entered, or it is refused and all is as it was.
 use Rattle.std.proofs.Common.{◌≡◌, ◌≢◌, ℕ, ◌+◌, ◌-◌, ◌≤◌, List, [], ◌++◌, length, Option, Result, None, Some, Ok, Err, refl, ap, get_or, ◌∙◌, arith, slice_set, length-append}
 use Rattle.std.specs.Result.{IsErrAnd}
 use Rattle.std.specs.List.{slice_get}
@@ -27,37 +28,37 @@ use Rattle.lazy_core.specs.Ledger.{LedgerState, Keeps, Adds}
 use Rattle.lazy_rules.specs.declared.limits.TheConstants.{WEIGHT_LIMIT}
 
 -- so many messages more were sent
-pub length_sent : (sent : List Envelope) (from time : ℕ) (sends : List (ℕ × Msg)) → length (sent ++ enveloped from time sends) ≡ length sent + length sends
-length_sent sent from time sends = simp (length-append, length-map)
+pub length_sent : (sent : List Envelope) (sender time : ℕ) (sends : List (ℕ × Msg)) → length (sent ++ enveloped sender time sends) ≡ length sent + length sends
+length_sent sent sender time sends = simp (length-append, length-map)
 
 -- what the messages weigh in their envelopes
-pub weight_enveloped : (from time : ℕ) (sends : List (ℕ × Msg)) → sent_weight (enveloped from time sends) ≡ sends_weight sends
-weight_enveloped from time sends =
-    fold-map (λ (a : ℕ) (x : Envelope). a + weight_of x.msg) (λ (send : ℕ × Msg). record { from = from; to = send.0; time = time; msg = send.1 }) 0 sends
+pub weight_enveloped : (sender time : ℕ) (sends : List (ℕ × Msg)) → sent_weight (enveloped sender time sends) ≡ sends_weight sends
+weight_enveloped sender time sends =
+    fold-map (λ (a : ℕ) (x : Envelope). a + weight_of x.msg) (λ (send : ℕ × Msg). record { from = sender; to = send.0; time = time; msg = send.1 }) 0 sends
 
-pub weight_sent : (sent : List Envelope) (from time : ℕ) (sends : List (ℕ × Msg)) → sent_weight (sent ++ enveloped from time sends) ≡ sent_weight sent + sends_weight sends
-weight_sent sent from time sends =
-    sum_by-append (λ (envelope : Envelope). weight_of envelope.msg) sent (enveloped from time sends) ∙ ap (λ n. sent_weight sent + n) (weight_enveloped from time sends)
+pub weight_sent : (sent : List Envelope) (sender time : ℕ) (sends : List (ℕ × Msg)) → sent_weight (sent ++ enveloped sender time sends) ≡ sent_weight sent + sends_weight sends
+weight_sent sent sender time sends =
+    sum_by-append (λ (envelope : Envelope). weight_of envelope.msg) sent (enveloped sender time sends) ∙ ap (λ n. sent_weight sent + n) (weight_enveloped sender time sends)
 
 -- an outbox for a step of a world that may send so many messages
 abbrev pub room_for : WorldState → ℕ → Out
 room_for w room = record { sends = []; events = []; messages_left = room; weight_left = WEIGHT_LIMIT - sent_weight w.sent }
 
 -- a step whose messages fit is within the room
-pub room_from_fits : (w next : WorldState) (room from time : ℕ) (sends : List (ℕ × Msg)) → next.sent ≡ w.sent ++ enveloped from time sends → sent_weight w.sent ≤ WEIGHT_LIMIT → Fits sends (room_for w room) → IsWithinRoom room w next
-room_from_fits w next room from time sends is light fits = record {
-  in_number = rw is (omega (arith, length_sent w.sent from time sends, fits.in_number));
-  in_weight = rw is (omega (arith, weight_sent w.sent from time sends, fits.in_weight));
+pub room_from_fits : (w next : WorldState) (room sender time : ℕ) (sends : List (ℕ × Msg)) → next.sent ≡ w.sent ++ enveloped sender time sends → sent_weight w.sent ≤ WEIGHT_LIMIT → Fits sends (room_for w room) → IsWithinRoom room w next
+room_from_fits w next room sender time sends is light fits = record {
+  in_number = rw is (omega (arith, length_sent w.sent sender time sends, fits.in_number));
+  in_weight = rw is (omega (arith, weight_sent w.sent sender time sends, fits.in_weight));
 }
 
 -- and one within the room fits
-pub fits_from_room : (w next : WorldState) (room from time : ℕ) (sends : List (ℕ × Msg)) → next.sent ≡ w.sent ++ enveloped from time sends → IsWithinRoom room w next → Fits sends (room_for w room)
-fits_from_room w next room from time sends is within =
-    let number : length (w.sent ++ enveloped from time sends) ≤ length w.sent + room = rw is at within.in_number in
-    let weight : sent_weight (w.sent ++ enveloped from time sends) ≤ WEIGHT_LIMIT = rw is at within.in_weight in
+pub fits_from_room : (w next : WorldState) (room sender time : ℕ) (sends : List (ℕ × Msg)) → next.sent ≡ w.sent ++ enveloped sender time sends → IsWithinRoom room w next → Fits sends (room_for w room)
+fits_from_room w next room sender time sends is within =
+    let number : length (w.sent ++ enveloped sender time sends) ≤ length w.sent + room = rw is at within.in_number in
+    let weight : sent_weight (w.sent ++ enveloped sender time sends) ≤ WEIGHT_LIMIT = rw is at within.in_weight in
     record {
-      in_number = omega (arith, length_sent w.sent from time sends);
-      in_weight = omega (arith, weight_sent w.sent from time sends);
+      in_number = omega (arith, length_sent w.sent sender time sends);
+      in_weight = omega (arith, weight_sent w.sent sender time sends);
     }
 
 -- a refusal for want of memory

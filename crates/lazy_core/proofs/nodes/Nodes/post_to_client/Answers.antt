@@ -2,8 +2,8 @@ use Rattle.std.proofs.Common.{◌≡◌, ◌+◌, ◌<◌, ◌≤◌, length, re
 use Rattle.view_config.specs.declared.edition.Mode.TheVariants.{M}
 use Rattle.lazy_rules.specs.WorldState.{WorldState}
 use Rattle.lazy_core.specs.WorldView.{world_of}
-use Rattle.lazy_core.proofs.Posting.{post_refused_here, post_happened, post_made, post_sound, post_within}
-use Rattle.lazy_core.proofs.nodes.Nodes.take_post.Goals as goal
+use Rattle.lazy_core.proofs.Posts.{post_refused_here, post_happened, post_made, post_sound, post_within}
+use Rattle.lazy_core.proofs.nodes.Nodes.post_to_client.Goals as goal
 use Rattle.lazy_rules.specs.declared.limits.TheConstants.{MESSAGES_LIMIT}
 
 pub returns-in_err-post : goal.returns-in_err-post
