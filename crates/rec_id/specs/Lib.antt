@@ -4,3 +4,4 @@ pub mod History
 pub mod Line
 pub mod Lawful
 pub mod Verdict
+pub mod Sharing
