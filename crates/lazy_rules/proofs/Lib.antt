@@ -1,2 +1,1 @@
 pub mod SeenAfter
-pub mod ClientSteps
