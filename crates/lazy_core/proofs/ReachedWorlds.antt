@@ -84,7 +84,7 @@ entries_same : (w : WorldState) (r : IsReached w) (items : List Item) → Each (
 entries_same w r [] h = refl
 entries_same w r (item ∷ items) h =
     let first = h.0 in
-    let told = item_is w.shape.mode w.shape.shards (first_stores w) item first.bytes (ap (λ (d : Dimensions). d.mode) (holds_of w r).shaped ∙ first.whole) first.has in
+    let told = item_is w.shape (first_stores w) item first.bytes (ap (λ (d : Dimensions). d.mode) (holds_of w r).shaped ∙ first.whole) first.has in
     let own : entry_of item ≡ Kept item.id first.bytes = ap (λ (b : Option (List ℕ)). Kept item.id (bytes_of b)) first.has in
     ap (λ (e : Entry). e ∷ map (item_entry w.shape (first_stores w)) items) (told ∙ sym own) ∙ ap (λ (es : List Entry). entry_of item ∷ es) (entries_same w r items h.1)
 

@@ -32,7 +32,7 @@ pub record Holding : Type 0 where
 abbrev pub shared_holding : ControlState → Holding
 shared_holding k = record { bound = base_of k; items = unwrap_or (taken_items k.phase) [] }
 
--- a member of a view has its own once it is in that view
+-- what a sequencing replica has in a view: its own once it is in that view, and else what is shared
 abbrev pub member_holding : Holding → ℕ → SeqState → Holding
 member_holding shared view seq = if seq.view == view then record { bound = seq.bound; items = seq.pending } else shared
 
@@ -44,10 +44,11 @@ seq_at w _ = None
 abbrev pub seq_numbered : WorldState → ℕ → Option SeqState
 seq_numbered w node = seq_at w (node_of w.shape node)
 
--- what a holder has, that is a member of this configuration, and what any has
+-- what a holder has as a member of this configuration
 abbrev pub holding_of : WorldState → ℕ → Config → Holding
 holding_of w holder config =
     option_map_or (member_holding (shared_holding w.control) config.view) (seq_numbered w holder) (shared_holding w.control)
 
+-- what a holder has: as a member of the latest started view, or as the taken state
 abbrev pub holding : WorldState → ℕ → Holding
 holding w holder = option_map_or (holding_of w holder) (latest_started w.control.phase) (shared_holding w.control)

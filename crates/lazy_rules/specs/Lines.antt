@@ -82,12 +82,11 @@ abbrev pub entry_with : Identity → Option (List ℕ) → Entry
 entry_with id bytes = option_map_or (KeptEntry id) bytes (NoopEntry id)
 
 -- the entry of an item that isn't bound: its own bytes where records go whole, else its shard's data
-abbrev pub item_entry_by : Mode → ℕ → List (Option Store) → Item → Entry
-item_entry_by M shards stores item = KeptEntry item.id (unwrap_or item.bytes [])
-item_entry_by St shards stores item = entry_with item.id (data_of stores (shard_of item.id shards) item.id)
-
 abbrev pub item_entry : Dimensions → List (Option Store) → Item → Entry
-item_entry shape stores item = item_entry_by shape.mode shape.shards stores item
+item_entry shape stores item = elim shape.mode [
+  | M ↦ KeptEntry item.id (unwrap_or item.bytes [])
+  | St ↦ entry_with item.id (data_of stores (shard_of item.id shape.shards) item.id)
+]
 
 -- the line of what a holder has, over these stores. The identities are read in the first shard's
 abbrev pub line_over : Dimensions → List (Option Store) → Holding → List Entry

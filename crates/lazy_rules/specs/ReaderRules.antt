@@ -7,7 +7,6 @@ use Rattle.rec_id.specs.declared.event.Ask.{Ask}
 use Rattle.rec_id.specs.declared.event.Ask.TheVariants.{Range, Tail}
 use Rattle.rec_id.specs.declared.event.Event.TheVariants.{Begin, Answer, TrimAsk, TrimDone, Trimmed}
 use Rattle.view_config.specs.declared.config.Config.{Config}
-use Rattle.view_config.specs.declared.edition.Edition.{Edition}
 use Rattle.view_config.specs.declared.edition.Edition.TheVariants.{One, Two}
 use Rattle.lazy_msgs.specs.declared.input.Input.{Input}
 use Rattle.lazy_msgs.specs.declared.input.Input.TheVariants.{Take, Tick, Ask as AskInput, Trim as TrimInput}
@@ -21,7 +20,7 @@ use Rattle.lazy_msgs.specs.Step.{Row}
 use Rattle.lazy_rules.specs.ClientRules.{with_node}
 use Rattle.lazy_rules.specs.Door.{is_turned_away}
 use Rattle.lazy_rules.specs.ReaderState.{ReaderState, Fetch, Force, Trimmer, Stage, Idle, Fetching, Probing, Trimming, outstanding}
-use Rattle.lazy_rules.specs.Roles.{is_first, first_of, home_of, primaries_of, replicas_of}
+use Rattle.lazy_rules.specs.Roles.{is_first, first_of, primaries_of, replicas_of, shard_kept_by}
 use Rattle.lazy_rules.specs.Rows.{stays, sends_all, followed, to_each, each_numbered, has_node}
 use Rattle.rec_id.specs.declared.limits.TheConstants.{READ_LIMIT}
 
@@ -191,11 +190,12 @@ falls_short r fetch = if is_none fetch.tail then probes_all r fetch.number fetch
 abbrev pub is_fetch_of : Fetch → ℕ → ℕ → Bool
 is_fetch_of fetch number from = fetch.number == number && asked_from fetch.ask == from
 
+-- Part, of the read: what is told up to its end is kept, and less falls short
 abbrev pub on_part : ReaderState → ℕ → ℕ → ℕ → ℕ → List (ℕ × Entry) → Row ReaderState
 on_part r sender number from end entries = elim r.stage [
   | Fetching fetch ↦
       if not (is_fetch_of fetch number from) then stays r
-      else (if nat_le fetch.end end then option_map_or (keeps_part r fetch entries) (home_of r.shape sender) (stays r)
+      else (if nat_le fetch.end end then option_map_or (keeps_part r fetch entries) (shard_kept_by r.shape sender) (stays r)
       else falls_short r fetch)
   | _ ↦ stays r
 ]
@@ -307,10 +307,12 @@ fetches_in_turn r fetch =
     sends_all (at_stage r (Fetching fetch))
     (each_numbered (fetch_in_turn fetch) 0 r.config.shards ++ reminds r fetch)
 
+-- unless its turns are spent
 abbrev pub fetches_again : ReaderState → Fetch → Row ReaderState
 fetches_again r fetch =
     if nat_lt (fetch.turn + 1) (2 ^ 32) then fetches_in_turn r (with_turn fetch) else stays r
 
+-- Tick: what isn't answered is sent again
 abbrev pub on_reader_tick : ReaderState → Row ReaderState
 on_reader_tick r = elim r.stage [
   | Idle ↦ stays r

@@ -43,5 +43,5 @@ abbrev pub shard_led_by : Config → ℕ → Option ℕ
 shard_led_by config node = position (λ nodes. is_first nodes node) config.shards
 
 -- the shard that the node is a replica of
-abbrev pub home_of : Dimensions → ℕ → Option ℕ
-home_of shape node = elim (node_of shape node) [ Some (Shard i j) ↦ Some i | _ ↦ None ]
+abbrev pub shard_kept_by : Dimensions → ℕ → Option ℕ
+shard_kept_by shape node = elim (node_of shape node) [ Some (Shard i j) ↦ Some i | _ ↦ None ]

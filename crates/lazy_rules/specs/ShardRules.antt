@@ -14,7 +14,7 @@ use Rattle.lazy_rules.specs.Door.{is_turned_away}
 use Rattle.lazy_rules.specs.Pushing.{length_of, settles, pushes_place, pushes_flush, pushes_above}
 use Rattle.lazy_rules.specs.Roles.{is_first, replicas_at}
 use Rattle.lazy_rules.specs.Rows.{stays, answers, followed}
-use Rattle.lazy_rules.specs.ShardState.{ShardState, Backup, PlaceJob, FlushJob, backups_of}
+use Rattle.lazy_rules.specs.ShardState.{ShardState, Backup, PlaceJob, backups_of}
 use Rattle.lazy_rules.specs.Store.{Store, extend, extend_cells, recut, recut_cells, hold, fill, open_to_noop, raise_stable, trim, part, noop_at, open_at, first_open, has_open_below}
 use Rattle.lazy_rules.specs.declared.limits.TheConstants.{JOBS_LIMIT}
 use Rattle.view_config.specs.declared.nodes.TheConstants.{BOARD}

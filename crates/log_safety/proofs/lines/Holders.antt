@@ -33,7 +33,7 @@ use Rattle.lazy_msgs.specs.declared.input.WorldEvent.{WorldEvent}
 use Rattle.lazy_rules.specs.ControlState.{ControlState, first_control, newest}
 use Rattle.lazy_rules.specs.Holders.{holders, is_alive, holding, member_holding, seq_numbered, seq_at, Holding}
 use Rattle.lazy_rules.specs.Ids.{ids_of}
-use Rattle.lazy_rules.specs.Lines.{line_told, line_of, line_over, first_stores, lost_shard, item_entry, item_entry_by, first_alive}
+use Rattle.lazy_rules.specs.Lines.{line_told, line_of, line_over, first_stores, lost_shard, item_entry, first_alive}
 use Rattle.lazy_rules.specs.SeqState.{SeqState, first_seq, first_view}
 use Rattle.lazy_rules.specs.Store.{Store}
 use Rattle.lazy_rules.specs.WorldState.{WorldState, first_world}
@@ -45,9 +45,10 @@ told_line line told None h = cc
 told_line line told (Some shard) h = cc
 
 -- the entry of an item
-pub item_is : (mode : Mode) (shards : ℕ) (stores : List (Option Store)) (item : Item) (bytes : List ℕ) → mode ≡ M → item.bytes ≡ Some bytes → item_entry_by mode shards stores item ≡ Kept item.id bytes
-item_is M shards stores item bytes is has = ap (λ (b : Option (List ℕ)). Kept item.id (unwrap_or b [])) has
-item_is _ shards stores item bytes is has = cc
+pub item_is : (shape : Dimensions) (stores : List (Option Store)) (item : Item) (bytes : List ℕ) → shape.mode ≡ M → item.bytes ≡ Some bytes → item_entry shape stores item ≡ Kept item.id bytes
+item_is shape stores item bytes is has =
+    ap (λ (mode : Mode). item_entry (record shape { mode = mode }) stores item) is
+    ∙ ap (λ (b : Option (List ℕ)). Kept item.id (unwrap_or b [])) has
 
 module _ (shape : Dimensions) (formed : IsShape shape) (g : Ghost) (w : WorldState) (holds : Holds shape g w) where
   -- a holder is a member of view 1
@@ -111,7 +112,7 @@ module _ (shape : Dimensions) (formed : IsShape shape) (g : Ghost) (w : WorldSta
     line_is = ap (line_over w.shape (first_stores w)) held_is
 
     entry_is : (item : Item) → ItemFacts shape w.history item → (bytes : List ℕ) × (item_entry w.shape (first_stores w) item ≡ Kept item.id bytes) × In (Invoke item.id bytes) w.history
-    entry_is item h = (h.bytes, item_is w.shape.mode w.shape.shards (first_stores w) item h.bytes (ap (λ (d : Dimensions). d.mode) holds.shaped ∙ h.whole) h.has, h.begun)
+    entry_is item h = (h.bytes, item_is w.shape (first_stores w) item h.bytes (ap (λ (d : Dimensions). d.mode) holds.shaped ∙ h.whole) h.has, h.begun)
 
     entries : Each (EntryFacts w.history) line
     entries = each_map (item_entry w.shape (first_stores w)) (EntryFacts w.history) s.pending
