@@ -1,15 +1,14 @@
 //! The half of a client that appends. It touches nothing but its own state and the outbox that it
 //! is handed.
 
-ghost use Rattle.std.specs.Prelude.{◌≡◌, ◌≢◌, ◌<◌, ◌==◌, length, slice_get, slice_set, remove, [], ◌∷◌, nat_lt, IfOk, IfSome, IfErr, OnOk, None, Some, Err};
+ghost use Rattle.std.specs.Prelude.{◌≡◌, ◌≢◌, ◌<◌, ◌==◌, length, slice_get, [], nat_lt, IfOk, IfSome, IfErr, OnOk, None, Some, Err};
 ghost use Rattle.lazy_msgs.specs.declared.msg.Msg.TheVariants.{AppendAck};
 ghost use Rattle.lazy_msgs.specs.Step.{StepsTo};
 ghost use Rattle.lazy_rules.specs.ClientState.{first_client, id_of, lowest};
-ghost use Rattle.lazy_rules.specs.ClientRules.{post_refusal, invokes, client_took, homes_of, data_nodes, sending, with_node, noted, is_complete, place_of, advances, notes, on_append_ack};
+ghost use Rattle.lazy_rules.specs.ClientRules.{post_refusal, invokes, client_took, homes_of, data_nodes, sending, with_node, is_complete, place_of, notes, on_append_ack};
 ghost use Rattle.lazy_rules.specs.ClientState.{OpenAppend as Unfinished};
 ghost use Rattle.lazy_rules.specs.Rows.{has_node};
 ghost use Rattle.std.specs.List.{list_all, list_any};
-ghost use Rattle.rec_id.specs.declared.event.Event.TheVariants.{Acked};
 ghost use Rattle.lazy_core.specs.AppendState.{AdvancesAt, append_state, finishes_at, with_acked};
 
 use crate::sending::{data_for, record_for};

@@ -1,6 +1,6 @@
 //! A sequencing replica. It touches nothing but its own state and the outbox that it is handed.
 
-ghost use Rattle.std.specs.Prelude.{◌≡◌, ◌+◌, ◌<◌, [], ◌∷◌, length, IfOk};
+ghost use Rattle.std.specs.Prelude.{◌≡◌, ◌+◌, ◌<◌, [], length, IfOk};
 ghost use Rattle.lazy_msgs.specs.declared.msg.Msg.TheVariants.{Append, AppendAck};
 ghost use Rattle.lazy_msgs.specs.Step.{StepsTo};
 ghost use Rattle.lazy_rules.specs.Rows.{answers};

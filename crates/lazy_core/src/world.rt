@@ -5,9 +5,8 @@
 //! `nodes.rt` has what a world is made of, `event.rt` what an event does to it, `line.rt` who holds
 //! the log.
 
-ghost use Rattle.std.specs.Prelude.{◌≡◌, ◌≢◌, ◌+◌, ◌<◌, ◌≤◌, ◌^◌, ◌++◌, [], ◌∷◌, ℕ, List, Ok, Err, true, length, IfOk, IfErr, OnOk, option_copied};
+ghost use Rattle.std.specs.Prelude.{◌≡◌, ◌+◌, ◌<◌, ◌≤◌, ◌^◌, ℕ, Ok, Err, true, length, IfOk, option_copied};
 ghost use Rattle.rec_id.specs.Lawful.{Lawful};
-ghost use Rattle.lazy_msgs.specs.declared.input.WorldEvent.{WorldEvent};
 ghost use Rattle.lazy_rules.specs.Holders.{holders};
 ghost use Rattle.lazy_rules.specs.Lines.{line_told};
 ghost use Rattle.lazy_rules.specs.Rows.{has_node};

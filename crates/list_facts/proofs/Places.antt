@@ -1,7 +1,7 @@
 -- Members by their places.
 use Rattle.std.proofs.lemmas.Bool.{cond-false, le-ltb}
 use Rattle.std.specs.List.{position, position_or_len}
-use Rattle.std.proofs.Common.{◌≡◌, ℕ, zero, suc, ◌<◌, Some, List, [], ◌∷◌, ◌++◌, length, slice_get, inl, inr, refl, ap, arith, ◌≢◌, ◌⊎◌, Bool, false, ltb, None}
+use Rattle.std.proofs.Common.{◌≡◌, ℕ, zero, suc, ◌<◌, Some, List, [], ◌∷◌, length, slice_get, inl, inr, refl, ap, arith, ◌≢◌, ◌⊎◌, Bool, false, ltb, None}
 use Rattle.std.specs.Prelude.{slice_set}
 use Rattle.list_facts.specs.Lists.{In, Each}
 use Rattle.list_facts.proofs.Members.{each_in}
@@ -24,12 +24,6 @@ module _ {A : Type 0} where
   below_at [] i lt = absurd (omega arith)
   below_at (z ∷ zs) zero lt = (z, refl)
   below_at (z ∷ zs) (suc i) lt = below_at zs i (omega arith)
-
-  -- the places of two lists together
-  pub at_left : (xs ys : List A) (i : ℕ) (x : A) → slice_get xs i ≡ Some x → slice_get (xs ++ ys) i ≡ Some x
-  at_left [] ys i x h = cc
-  at_left (z ∷ zs) ys zero x h = h
-  at_left (z ∷ zs) ys (suc i) x h = at_left zs ys i x h
 
   -- the member at a place of a list with another member at one place
   pub at_set_cases : (xs : List A) (i : ℕ) (y : A) (j : ℕ) (x : A) → slice_get (slice_set xs i y) j ≡ Some x → ((j ≡ i) × (x ≡ y)) ⊎ ((j ≢ i) × (slice_get xs j ≡ Some x))
