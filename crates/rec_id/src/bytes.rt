@@ -3,8 +3,10 @@
 //! Data is shared, not copied: a clone has the same bytes in memory as its source, and counts as one
 //! more owner of them. What several own is never written.
 
-ghost use Rattle.std.specs.Prelude.{◌≡◌, ◌<◌, ◌≤◌, ◌+◌, ◌++◌, ◌↔◌, List, [], ◌∷◌, length, take, slice_get, IsNone, IfOk, IfSome, IfNone, OnOk, OnErr, Some};
+ghost use Rattle.std.specs.Prelude.{◌≡◌, ◌<◌, ◌≤◌, ◌+◌, ◌++◌, ◌↔◌, List, [], ◌∷◌, length, replicate, take, slice_get, IsNone, IfOk, IfSome, IfNone, OnOk, OnErr, Some};
+ghost use Rattle.std.specs.Arc.{arc_value};
 ghost use Rattle.rec_id.specs.Sharing.{bytes_of};
+ghost use Rattle.rec_id.specs.declared.bytes.Block.TheVariants.{Short};
 
 use plain_lists::Sequence;
 use std::alloc::{AllocError, Global};
@@ -33,18 +35,27 @@ impl Clone for Block {
     }
 }
 
+/// Writes `bytes` over the first ones of `into`.
+fn write_front(into: &mut [u8; 64], bytes: &[u8])
+    requires { length bytes.now ≤ 64 }
+    ensures begins { take (length bytes.now) into.new ≡ bytes.now }
+    ensures within { length bytes.now ≤ length into.new }
+{
+    into[..bytes.len()].copy_from_slice(bytes);
+}
+
 impl Block {
-    /// A block that begins with `bytes`.
-    fn new(alloc: Global, bytes: &[u8]) -> Result<Block, AllocError>
-        ensures begins { IfOk result (λ block. take (length bytes.now) (bytes_of block) ≡ bytes.now) }
-        ensures within { IfOk result (λ block. length bytes.now ≤ length (bytes_of block)) }
+    /// Writes `bytes` over the first ones of a short block.
+    fn begin(&mut self, bytes: &[u8])
+        requires short { self.old ≡ Short (replicate 64 0) }
+        requires fit { length bytes.now ≤ 64 }
+        ensures begins { take (length bytes.now) (bytes_of self.new) ≡ bytes.now }
+        ensures within { length bytes.now ≤ length (bytes_of self.new) }
     {
-        if bytes.len() > SHORT {
-            return Ok(Block::Long(Sequence::from_vec(Vec::from_slice(alloc, bytes)?)));
+        match self {
+            Block::Short(short) => write_front(short, bytes),
+            Block::Long(_) => unreachable!(),
         }
-        let mut short = [0; SHORT];
-        short[..bytes.len()].copy_from_slice(bytes);
-        Ok(Block::Short(short))
     }
 
     fn as_slice(&self) -> &[u8]
@@ -81,6 +92,23 @@ impl Block {
         }
         Ok(())
     }
+}
+
+/// A block that begins with `bytes`. Short ones are written where they stay.
+fn share(alloc: Global, bytes: &[u8]) -> Result<Arc<Block>, AllocError>
+    ensures begins { IfOk result (λ block. take (length bytes.now) (bytes_of (arc_value block)) ≡ bytes.now) }
+    ensures within { IfOk result (λ block. length bytes.now ≤ length (bytes_of (arc_value block))) }
+{
+    if bytes.len() > SHORT {
+        let long = Sequence::from_vec(Vec::from_slice(alloc, bytes)?);
+        return Ok(Arc::new(alloc, Block::Long(long))?);
+    }
+    let mut block = Arc::new(alloc, Block::Short([0; SHORT]))?;
+    let Some(own) = Arc::get_mut(&mut block) else {
+        return Err(AllocError);
+    };
+    own.begin(bytes);
+    Ok(block)
 }
 
 /// A list of bytes. How many a record may have is a matter of the edition (`view_config`).
@@ -142,10 +170,9 @@ impl Bytes {
         if bytes.is_empty() {
             return Ok(Bytes::new(alloc));
         }
-        let block = Block::new(alloc, bytes)?;
         Ok(Bytes {
             alloc,
-            block: Some(Arc::new(alloc, block)?),
+            block: Some(share(alloc, bytes)?),
             len: bytes.len(),
         })
     }
@@ -162,8 +189,7 @@ impl Bytes {
                 own.put(self.alloc, self.len, byte)?;
             }
             None => {
-                let own = Block::new(self.alloc, &[byte])?;
-                self.block = Some(Arc::new(self.alloc, own)?);
+                self.block = Some(share(self.alloc, &[byte])?);
             }
         }
         self.len = len;
