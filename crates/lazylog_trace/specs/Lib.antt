@@ -1,8 +1,7 @@
-pub mod Digits
 pub mod Words
-pub mod Script
-pub mod Doing
-pub mod Session
+pub mod Apply
+pub mod Streams
 pub mod Output
+pub mod Trace
 pub mod Traced
 pub mod Printed

@@ -4,31 +4,31 @@ use Rattle.rec_id.specs.declared.event.Event.{Event}
 use Rattle.io_edges.specs.Telling.{Stops}
 use Rattle.io_edges.specs.declared.status.Status.{Status}
 use Rattle.io_edges.specs.declared.status.Status.TheVariants.{WriteFault}
-use Rattle.lazylog_trace.specs.Doing.{event_lines}
+use Rattle.lazylog_trace.specs.Apply.{event_texts}
 
--- What was printed is the history: the events among the lines that were written.
+-- What was printed is the history: the events among the texts that were written.
 
--- bytes behind the last newline are a line of their own
+-- bytes behind the last newline are a text of their own
 abbrev pub last_of : List ℕ → List (List ℕ)
 last_of [] = []
 last_of (byte ∷ bytes) = (byte ∷ bytes) ∷ []
 
--- the lines of a text, each with its newline, where `line` was read of the first one already
-abbrev pub lines_from : List ℕ → List ℕ → List (List ℕ)
-lines_from line [] = last_of line
-lines_from line (byte ∷ bytes) = if byte == 10 then (line ++ byte ∷ []) ∷ lines_from [] bytes else lines_from (line ++ byte ∷ []) bytes
+-- the texts among these bytes, each with its newline, where `text` was read of the first one already
+abbrev pub texts_from : List ℕ → List ℕ → List (List ℕ)
+texts_from text [] = last_of text
+texts_from text (byte ∷ bytes) = if byte == 10 then (text ++ byte ∷ []) ∷ texts_from [] bytes else texts_from (text ++ byte ∷ []) bytes
 
-abbrev pub lines_of : List ℕ → List (List ℕ)
-lines_of text = lines_from [] text
+abbrev pub texts_of : List ℕ → List (List ℕ)
+texts_of bytes = texts_from [] bytes
 
--- a line that prints an event begins with the name of a client
-abbrev pub is_event_line : List ℕ → Bool
-is_event_line [] = false
-is_event_line (byte ∷ bytes) = byte == 99
+-- a text that prints an event begins with the name of a client
+abbrev pub is_event_text : List ℕ → Bool
+is_event_text [] = false
+is_event_text (byte ∷ bytes) = byte == 99
 
--- the lines of the text that print an event are those of this history, each once and in order
-pub record Prints (text : List ℕ) (history : List Event) : Type 0 where
-  pub events_are : filter is_event_line (lines_of text) ≡ event_lines history
+-- the texts that print an event are those of this history, each once and in order
+pub record Prints (printed : List ℕ) (history : List Event) : Type 0 where
+  pub events_are : filter is_event_text (texts_of printed) ≡ event_texts history
 
 -- what was written prints this history; it is a front of what does where a write failed
 pub record Shows (before after : Option (List ℕ)) (history : List Event) (status : Status) : Type 0 where

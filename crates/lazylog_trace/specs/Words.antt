@@ -20,3 +20,7 @@ pub record AskFor (words : List (List ℕ)) (shape : Dimensions) : Type 0 where
 pub record IsTraceWords (words : List (List ℕ)) : Type 0 where
   pub shape : Dimensions
   pub asked : AskFor words shape
+
+-- what faulty words are answered by
+abbrev pub usage_text : List ℕ
+usage_text = codes "usage"

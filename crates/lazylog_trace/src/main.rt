@@ -5,12 +5,10 @@
 //! program.
 #![tactic(auto)]
 
-mod handling;
-mod numbers;
-mod script;
-mod session;
-mod texts;
+mod apply;
+mod output;
 mod top;
+mod trace;
 mod words;
 
 use io_edges::{StdSink, StdSource};
@@ -20,10 +18,16 @@ use rec_id::{Text, TextList};
 use std::process::ExitCode;
 use std::{env, io};
 
-/// The words after the program's name.
+/// The words after the program's name. A word that isn't UTF-8 belongs to no trace, and neither do no words,
+/// which stand for it.
 fn words_of(rt: &HostRuntime) -> io::Result<TextList> {
     let mut words = Sequence::new(rt.alloc());
-    for word in env::args(rt)?.skip(1) {
+    let given = match env::args(rt) {
+        Ok(given) => given,
+        Err(error) if error.kind() == io::ErrorKind::InvalidData => return Ok(words),
+        Err(error) => return Err(error),
+    };
+    for word in given.skip(1) {
         words.push(Text::from_vec(word.into_bytes()))?;
     }
     Ok(words)

@@ -1,27 +1,25 @@
 //! The whole program, over any source and sink.
 
-ghost use Rattle.std.specs.Prelude.{◌≡◌, ◌≢◌, ◌≤◌, ◌⊎◌, None, IfOk, IsOk, IfErr, OnOk, Err, codes};
-ghost use Rattle.std.specs.Io.KnownBytes.{append_known};
-ghost use Rattle.io_edges.specs.Telling.{Fails, Stops};
-ghost use Rattle.lazylog_trace.specs.Doing.{as_line};
-ghost use Rattle.lazy_core.specs.Filled.{IsFilled};
-ghost use Rattle.lazylog_trace.specs.Output.{closing_line, last_line, status_of};
-ghost use Rattle.lazylog_trace.specs.Traced.{Closed, IsTrace, RanOf, TracedTo, source_of};
+ghost use Rattle.std.specs.Prelude.{◌≡◌, ◌≢◌, ◌⊎◌, IfOk, Err};
+ghost use Rattle.view_config.specs.Shape.{IsShape};
 ghost use Rattle.view_config.specs.declared.edition.Mode.TheVariants.{M};
-ghost use Rattle.io_edges.specs.Faults.{Rose};
-ghost use Rattle.io_edges.specs.declared.status.Status.TheVariants.{Usage, ReadFault, WriteFault, Memory};
-ghost use Rattle.lazylog_trace.specs.Session.{IsUnderWay, Stopped, reading_of};
-ghost use Rattle.view_config.specs.Shape.{Dimensions, IsShape};
-ghost use Rattle.lazylog_trace.specs.Words.{AskFor, IsTraceWords};
+ghost use Rattle.io_edges.specs.declared.status.Status.TheVariants.{Usage, Memory};
+ghost use Rattle.lazy_core.specs.Filled.{IsFilled};
+ghost use Rattle.lazylog_trace.specs.Output.{last_text, status_of};
+ghost use Rattle.lazylog_trace.specs.Streams.{AnswersFaults, ClosesFaults, HasFaults, sink_use, source_use};
+ghost use Rattle.lazylog_trace.specs.Trace.{IsUnderWay, progress_of};
+ghost use Rattle.lazylog_trace.specs.Traced.{AnswersUsage, Closed, IsTrace, IsTraceOf, RanOf, TracedTo};
+ghost use Rattle.lazylog_trace.specs.Words.{IsTraceWords};
 
-use crate::session::{Session, write_line};
-use crate::texts::{end_text, stop_text};
+use crate::output::{write_last, write_text};
+use crate::trace::Trace;
 use crate::words::read_words;
 use io_edges::{Sink, Source, Status};
 use lazy_core::{Trail, World};
 use plain_lists::Sequence;
 use rec_id::{Text, TextList};
 use std::alloc::{AllocError, Global};
+use trace_script::{print_bad_line, print_end, print_limit, print_read_fault};
 use view_config::Shape;
 
 /// How many bytes are asked for in one read.
@@ -30,19 +28,13 @@ const PIECE: usize = 4_096;
 /// Reads the script to its end, or up to what stops it.
 fn run_script<S: Source, K: Sink>(
     alloc: Global,
-    session: &mut Session,
+    trace: &mut Trace,
     source: &mut S,
     sink: &mut K,
 ) -> Result<(), Status>
-    requires { IsUnderWay session.old }
-    ensures no_usage { result ≢ Err Usage }
-    ensures read_fault { result ≡ Err ReadFault → Rose (S.faults source.old) (S.faults source.new) }
-    ensures write_fault { result ≡ Err WriteFault → Rose (K.faults sink.old) (K.faults sink.new) }
-    ensures grows { K.faults sink.old ≤ K.faults sink.new }
-    ensures source_grows { S.faults source.old ≤ S.faults source.new }
-    ensures sink_faultless { result ≢ Err WriteFault → K.faults sink.new ≡ K.faults sink.old }
-    ensures source_faultless { result ≢ Err ReadFault → S.faults source.new ≡ S.faults source.old }
-    ensures ran { RanOf (source_of (S.left source.old) (S.left source.new) (S.faults source.old) (S.faults source.new)) (reading_of session.old) (K.written sink.old) (K.written sink.new) (reading_of session.new) result }
+    requires { IsUnderWay trace.old }
+    ensures faults { HasFaults (source_use S.left S.faults source.old source.new) (sink_use K.written K.faults sink.old sink.new) result }
+    ensures ran { RanOf (source_use S.left S.faults source.old source.new) (progress_of trace.old) (K.written sink.old) (K.written sink.new) (progress_of trace.new) result }
 {
     let mut piece = [0u8; PIECE];
     loop {
@@ -50,73 +42,44 @@ fn run_script<S: Source, K: Sink>(
             return Err(Status::ReadFault);
         };
         if count == 0 {
-            return session.take_end(alloc, sink);
+            return trace.feed_end(alloc, sink);
         }
-        match session.take(alloc, &piece[..count], sink) {
+        match trace.feed(alloc, &piece[..count], sink) {
             Ok(()) => {}
             Err(status) => return Err(status),
         }
     }
 }
 
-fn write_text<K: Sink>(sink: &mut K, mut text: Text) -> Result<(), Status>
-    ensures whole { OnOk result (K.written sink.new ≡ append_known (K.written sink.old) (as_line text)) }
-    ensures front { Stops (K.written sink.old) (K.written sink.new) (as_line text) }
-    ensures fails { result ≡ Err WriteFault → Fails (K.written sink.old) (K.written sink.new) (as_line text) }
-    ensures only { IfErr result (λ status. (status ≡ WriteFault) ⊎ (status ≡ Memory)) }
-    ensures stopped { Stopped (K.faults sink.old) (K.faults sink.new) result }
-{
-    match text.push(b'\n') {
-        Ok(()) => write_line(sink, text.as_slice()),
-        Err(AllocError) => Err(Status::Memory),
-    }
-}
-
-/// The last line, where the trace has one.
-fn last_line(
+/// The last text, where the trace has one.
+fn last_text(
     alloc: Global,
     world: &World,
     ended: Result<(), Status>,
 ) -> Result<Option<Text>, AllocError>
-    ensures { IfOk result (λ text. text ≡ last_line world.now ended) }
+    ensures { IfOk result (λ last. last ≡ last_text world.now ended) }
 {
+    let mut text = Sequence::new(alloc);
     match ended {
-        Ok(()) => {
-            let text = end_text(alloc, world.events(), world.sent())?;
-            Ok(Some(text))
-        }
-        Err(status) => stop_text(alloc, status),
+        Ok(()) => print_end(alloc, world.events(), world.sent(), &mut text)?,
+        Err(Status::BadLine(number)) => print_bad_line(alloc, number, &mut text)?,
+        Err(Status::Limit(number)) => print_limit(alloc, number, &mut text)?,
+        Err(Status::ReadFault) => print_read_fault(alloc, &mut text)?,
+        Err(_) => return Ok(None),
     }
+    Ok(Some(text))
 }
 
-fn write_last<K: Sink>(sink: &mut K, line: Option<Text>) -> Result<(), Status>
-    ensures whole { OnOk result (K.written sink.new ≡ append_known (K.written sink.old) (closing_line line)) }
-    ensures front { Stops (K.written sink.old) (K.written sink.new) (closing_line line) }
-    ensures fails { result ≡ Err WriteFault → Fails (K.written sink.old) (K.written sink.new) (closing_line line) }
-    ensures none { line ≡ None → (K.written sink.new ≡ K.written sink.old) × IsOk result }
-    ensures only { IfErr result (λ status. (status ≡ WriteFault) ⊎ (status ≡ Memory)) }
-    ensures stopped { Stopped (K.faults sink.old) (K.faults sink.new) result }
-{
-    match line {
-        Some(text) => write_text(sink, text),
-        None => Ok(()),
-    }
-}
-
-/// Writes the last line, and answers what the trace ends with.
+/// Writes the last text, and answers what the trace ends with.
 fn close<K: Sink>(alloc: Global, world: &World, ended: Result<(), Status>, sink: &mut K) -> Status
-    ensures closed { Closed (last_line world.now ended) (status_of ended) (K.written sink.old) (K.written sink.new) result }
-    ensures no_usage { ended ≢ Err Usage → result ≢ Usage }
-    ensures read_fault { result ≡ ReadFault → ended ≡ Err ReadFault }
-    ensures write_fault { result ≡ WriteFault → ended ≢ Err WriteFault → Rose (K.faults sink.old) (K.faults sink.new) }
-    ensures faultless { result ≢ WriteFault → K.faults sink.new ≡ K.faults sink.old }
-    ensures grows { K.faults sink.old ≤ K.faults sink.new }
+    ensures closed { Closed (last_text world.now ended) (status_of ended) (K.written sink.old) (K.written sink.new) result }
+    ensures faults { ClosesFaults ended (K.faults sink.old) (K.faults sink.new) result }
 {
-    let line = match last_line(alloc, world, ended) {
-        Ok(line) => line,
+    let last = match last_text(alloc, world, ended) {
+        Ok(last) => last,
         Err(AllocError) => return Status::Memory,
     };
-    match write_last(sink, line) {
+    match write_last(sink, last) {
         Ok(()) => match ended {
             Ok(()) => Status::Done,
             Err(status) => status,
@@ -125,23 +88,20 @@ fn close<K: Sink>(alloc: Global, world: &World, ended: Result<(), Status>, sink:
     }
 }
 
-/// Runs the script to what ends it, and writes the last line.
+/// Runs the script to what ends it, and writes the last text.
 fn run_and_close<S: Source, K: Sink>(
     alloc: Global,
-    session: &mut Session,
+    trace: &mut Trace,
     source: &mut S,
     sink: &mut K,
 ) -> Status
-    requires { IsUnderWay session.old }
+    requires { IsUnderWay trace.old }
     ensures no_usage { result ≢ Usage }
-    ensures read_fault { result ≡ ReadFault → Rose (S.faults source.old) (S.faults source.new) }
-    ensures write_fault { result ≡ WriteFault → Rose (K.faults sink.old) (K.faults sink.new) }
-    ensures sink_faultless { result ≢ WriteFault → result ≢ Memory → K.faults sink.new ≡ K.faults sink.old }
-    ensures source_faultless { result ≢ ReadFault → result ≢ WriteFault → result ≢ Memory → S.faults source.new ≡ S.faults source.old }
-    ensures traced { TracedTo (source_of (S.left source.old) (S.left source.new) (S.faults source.old) (S.faults source.new)) (reading_of session.old) (K.written sink.old) (K.written sink.new) session.new.world result }
+    ensures faults { AnswersFaults (source_use S.left S.faults source.old source.new) (sink_use K.written K.faults sink.old sink.new) result }
+    ensures traced { TracedTo (source_use S.left S.faults source.old source.new) (progress_of trace.old) (K.written sink.old) (K.written sink.new) trace.new.world result }
 {
-    let ended = run_script(alloc, session, source, sink);
-    close(alloc, session.world(), ended, sink)
+    let ended = run_script(alloc, trace, source, sink);
+    close(alloc, trace.world(), ended, sink)
 }
 
 /// Fills in the trail, unless there was no memory for the trace or is none for the trail.
@@ -160,7 +120,7 @@ fn fill_trail(alloc: Global, world: &World, status: Status, trail: &mut Trail) -
     }
 }
 
-fn trace<S: Source, K: Sink>(
+fn trace_shape<S: Source, K: Sink>(
     alloc: Global,
     shape: &Shape,
     source: &mut S,
@@ -170,30 +130,27 @@ fn trace<S: Source, K: Sink>(
     requires mode { shape.now.mode ≡ M }
     requires formed { IsShape shape.now }
     ensures no_usage { result ≢ Usage }
-    ensures read_fault { result ≡ ReadFault → Rose (S.faults source.old) (S.faults source.new) }
-    ensures write_fault { result ≡ WriteFault → Rose (K.faults sink.old) (K.faults sink.new) }
-    ensures sink_faultless { result ≢ WriteFault → result ≢ Memory → K.faults sink.new ≡ K.faults sink.old }
-    ensures source_faultless { result ≢ ReadFault → result ≢ WriteFault → result ≢ Memory → S.faults source.new ≡ S.faults source.old }
-    ensures traced { IsTrace shape.now (source_of (S.left source.old) (S.left source.new) (S.faults source.old) (S.faults source.new)) (K.written sink.old) (K.written sink.new) trail.old trail.new result }
+    ensures faults { AnswersFaults (source_use S.left S.faults source.old source.new) (sink_use K.written K.faults sink.old sink.new) result }
+    ensures traced { IsTrace shape.now (source_use S.left S.faults source.old source.new) (sink_use K.written K.faults sink.old sink.new) trail.old trail.new result }
     ensures unfilled { result ≡ Memory → trail.new ≡ trail.old }
 {
     let Ok(world) = World::new(alloc, shape) else {
         return Status::Memory;
     };
-    let mut session = Session::new(alloc, world);
-    let status = run_and_close(alloc, &mut session, source, sink);
-    fill_trail(alloc, session.world(), status, trail)
+    let mut trace = Trace::new(alloc, world);
+    let status = run_and_close(alloc, &mut trace, source, sink);
+    fill_trail(alloc, trace.world(), status, trail)
 }
 
 /// Traces the script that `source` has, as the words say, and writes what happens to `sink`.
 ///
 /// The text that is written, and what the trace ends with, are the definitions `out` and `end_of` of
 /// `specs/Output.antt`, which read the script byte by byte. `Usage` is answered for words that ask for
-/// no trace, `BadLine(n)` where line n is the first that is outside the grammar or too long, `Limit(n)`
-/// where line n is one too many, or an event of it would send more than a world may.
+/// no trace, `BadLine(n)` where script line n is the first that is outside the grammar or too long,
+/// `Limit(n)` where script line n is one too many, or an event of it would send more than a world may.
 ///
 /// The trail is filled whatever the trace ended with, but for faulty words and want of memory: it has the
-/// history of the events that were handled, and the lines of those holders whose line isn't lost.
+/// history of the events that were applied, and the lines of those holders whose line isn't lost.
 pub fn trace_top<S: Source, K: Sink>(
     alloc: Global,
     words: &TextList,
@@ -201,40 +158,34 @@ pub fn trace_top<S: Source, K: Sink>(
     sink: &mut K,
     trail: &mut Trail,
 ) -> Status
-    // Faulty words are told, where they can be, and then no input is read.
+    // Faulty words are answered by `usage`, where it can be written, and then no input is read.
     ensures usage { result ≡ Usage → ¬ IsTraceWords words.now }
-    ensures faulty { ¬ IsTraceWords words.now → (result ≡ Usage) ⊎ ((result ≡ WriteFault) ⊎ (result ≡ Memory)) }
+    ensures faulty { ¬ IsTraceWords words.now → AnswersUsage (sink_use K.written K.faults sink.old sink.new) result }
     ensures unread { ¬ IsTraceWords words.now → source.new ≡ source.old }
-    ensures usage_text { result ≡ Usage → K.written sink.new ≡ append_known (K.written sink.old) (as_line (codes "usage")) }
-    ensures usage_front { ¬ IsTraceWords words.now → Stops (K.written sink.old) (K.written sink.new) (as_line (codes "usage")) }
-    ensures usage_fails { ¬ IsTraceWords words.now → result ≡ WriteFault → Fails (K.written sink.old) (K.written sink.new) (as_line (codes "usage")) }
 
     // Where the words ask for a shape, the trace is that of the bytes that the source had, where it tells them.
-    // It ends as these bytes say, and what they say is written; where the source failed, what the lines say
+    // It ends as these bytes say, and what they say is written; where the source failed, what the script lines say
     // that were read whole, and that it failed; where a write failed, a front of that. The trail has the history
-    // of the run of the events that were handled, and the line of each holder whose line isn't lost, which is
+    // of the run of the events that were applied, and the line of each holder whose line isn't lost, which is
     // lawful for that history. What was printed is that history, each event once and in order, or a front of it
     // where a write failed.
-    ensures traced { (shape : Dimensions) → AskFor words.now shape → IsTrace shape (source_of (S.left source.old) (S.left source.new) (S.faults source.old) (S.faults source.new)) (K.written sink.old) (K.written sink.new) trail.old trail.new result }
+    ensures traced { IsTraceOf words.now (source_use S.left S.faults source.old source.new) (sink_use K.written K.faults sink.old sink.new) trail.old trail.new result }
 
     // Faulty words and want of memory leave the trail as it was.
     ensures faulty_trail { ¬ IsTraceWords words.now → trail.new ≡ trail.old }
     ensures memory_trail { result ≡ Memory → trail.new ≡ trail.old }
 
     // A fault is answered only where one was counted in this call, and one that was counted is answered, unless
-    // there was no memory, or, for the source's, the line on it couldn't be written.
-    ensures read_fault { result ≡ ReadFault → Rose (S.faults source.old) (S.faults source.new) }
-    ensures write_fault { result ≡ WriteFault → Rose (K.faults sink.old) (K.faults sink.new) }
-    ensures sink_faultless { result ≢ WriteFault → result ≢ Memory → K.faults sink.new ≡ K.faults sink.old }
-    ensures source_faultless { result ≢ ReadFault → result ≢ WriteFault → result ≢ Memory → S.faults source.new ≡ S.faults source.old }
+    // there was no memory, or, for the source's, the text of it couldn't be written.
+    ensures faults { AnswersFaults (source_use S.left S.faults source.old source.new) (sink_use K.written K.faults sink.old sink.new) result }
 {
     let Some(shape) = read_words(words) else {
-        return match write_line(sink, b"usage\n") {
+        return match write_text(sink, b"usage\n") {
             Ok(()) => Status::Usage,
             Err(status) => status,
         };
     };
-    trace(alloc, &shape, source, sink, trail)
+    trace_shape(alloc, &shape, source, sink, trail)
 }
 
 #[cfg(test)]
@@ -364,7 +315,7 @@ mod tests {
         let none = [].as_slice();
         for (words, reads, writes, want) in [
             (words, none, none, (2, 3, 1)),
-            // The append is handled, though its line isn't written.
+            // The append is applied, though its text isn't written.
             (words, none, [1].as_slice(), (1, 3, 0)),
             (words, none, [3].as_slice(), (2, 3, 1)),
             (words, [1].as_slice(), none, (0, 3, 0)),

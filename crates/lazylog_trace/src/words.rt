@@ -3,8 +3,8 @@
 ghost use Rattle.std.specs.Prelude.{◌≡◌, ◌≢◌, ◌↔◌, ◌<◌, ◌^◌, ℕ, length, slice_get, Some, IfSome, IfNone, IsTrue, decimal};
 ghost use Rattle.lazylog_trace.specs.Words.{AskFor, IsTraceWords};
 
-use crate::numbers::read_number;
 use rec_id::TextList;
+use trace_script::read_number;
 use view_config::{Mode, Shape};
 
 /// The number that word `i` is the decimal text of.

@@ -2,7 +2,7 @@ use Rattle.std.proofs.Common.{rules, refl}
 use Rattle.view_config.specs.Shape.{Dimensions}
 use Rattle.view_config.specs.declared.edition.Edition.TheVariants.{One}
 use Rattle.view_config.specs.declared.edition.Mode.TheVariants.{M}
-use Rattle.lazylog_trace.proofs.Asking.{Reads, AreWords, asked_some, asked_none}
+use Rattle.lazylog_trace.proofs.CommandLine.{HaveNumbers, AreWords, asked_some, asked_none}
 use Rattle.lazylog_trace.proofs.words.read_words.Goals as goal
 
 abbrev read_of : goal.After-new → Dimensions
@@ -16,7 +16,7 @@ read_of c = record {
   clients = c.in_ok-number_at-5.field-0;
 }
 
-reads : (c : goal.After-new) → Reads c.args.words.now (read_of c)
+reads : (c : goal.After-new) → HaveNumbers c.args.words.now (read_of c)
 reads c = record {
   count = search rules;
   first = search rules;

@@ -1,0 +1,155 @@
+-- The events among the texts that are printed, and those that commands print of themselves.
+use Rattle.std.proofs.Common.{◌≡◌, ℕ, List, [], ◌∷◌, ◌++◌, map, Bool, true, false, Option, Some, None, refl, sym, ap, ◌∙◌, subst, append_assoc}
+use Rattle.std.specs.Prelude.{filter, if◌then◌else◌, Result, Ok, Err}
+use Rattle.std.proofs.lemmas.Grind.{flat_map-append}
+use Rattle.std.proofs.lemmas.List.{map-append}
+use Rattle.std.proofs.lemmas.List.Elements.{filter-append}
+use Rattle.list_facts.specs.Lists.{In, Each, Front}
+use Rattle.list_facts.proofs.Fronts.{front_append, front_trans}
+use Rattle.log_safety.proofs.Runs.{run_append}
+use Rattle.lazy_msgs.specs.declared.input.WorldEvent.{WorldEvent}
+use Rattle.lazy_rules.specs.WorldRules.{run}
+use Rattle.list_facts.proofs.Members.{each_append, each_weaker, in_each}
+use Rattle.rec_id.specs.declared.entry.Entry.{Entry}
+use Rattle.rec_id.specs.declared.event.Event.{Event}
+use Rattle.rec_id.specs.declared.event.Event.TheVariants.{Invoke, Acked, Rejected, Begin, Answer, Seen, TrimAsk, TrimDone, Trimmed}
+use Rattle.lazy_msgs.specs.declared.refused.EventRefused.{EventRefused}
+use Rattle.lazy_msgs.specs.declared.input.WorldEvent.TheVariants.{Post, Deliver as DeliverEvent}
+use Rattle.lazy_rules.specs.Holders.{holders}
+use Rattle.lazy_rules.specs.Lines.{line_told}
+use Rattle.lazy_rules.specs.WorldState.{WorldState}
+use Rattle.lazy_rules.specs.WorldRules.{refusal}
+use Rattle.trace_script.specs.EventTexts.{event_text}
+use Rattle.trace_script.specs.declared.node_word.NodeWord.{NodeWord}
+use Rattle.trace_script.specs.Nodes.{node_of_word}
+use Rattle.trace_script.specs.declared.command.Command.{Command}
+use Rattle.trace_script.specs.declared.command.Command.TheVariants.{Nothing, Append, Deliver, Flow, Lines}
+use Rattle.lazylog_trace.specs.Apply.{with_newline, event_texts, refusal_texts, post_texts, held_text, holder_text, holder_texts, own_texts}
+use Rattle.lazylog_trace.specs.Output.{printed}
+use Rattle.lazylog_trace.specs.Printed.{is_event_text}
+
+-- a text that a command prints of itself, at a world on the way of these events
+pub record IsOwnText (start : WorldState) (events : List WorldEvent) (line : List ℕ) : Type 0 where
+  pub passed : List WorldEvent
+  pub on_way : Front passed events
+  pub command : Command
+  pub among : In line (own_texts (run passed start) command)
+
+-- the output is made of texts: those of what was told, each once and in order, and those that commands print of
+-- themselves
+pub record Made (start : WorldState) (events : List WorldEvent) (text : List ℕ) (told : List Event) : Type 0 where
+  pub lines : List (List ℕ)
+  pub text_is : text ≡ printed lines
+  pub events_are : filter is_event_text lines ≡ event_texts told
+  pub own : Each (λ line. is_event_text line ≡ false → IsOwnText start events line) lines
+
+-- an event's text is one
+event_is : (event : Event) → is_event_text (with_newline (event_text event)) ≡ true
+event_is (Invoke id bytes) = refl
+event_is (Acked id) = refl
+event_is (Rejected id place) = refl
+event_is (Begin client read ask) = refl
+event_is (Answer client read from entries tail) = refl
+event_is (Seen client from ids) = refl
+event_is (TrimAsk client read floor) = refl
+event_is (TrimDone client read floor) = refl
+event_is (Trimmed client read floor) = refl
+
+events_all : (events : List Event) → filter is_event_text (event_texts events) ≡ event_texts events
+events_all [] = refl
+events_all (event ∷ events) =
+    ap (λ (b : Bool). if b then with_newline (event_text event) ∷ filter is_event_text (event_texts events) else filter is_event_text (event_texts events)) (event_is event)
+    ∙ ap (λ (lines : List (List ℕ)). with_newline (event_text event) ∷ lines) (events_all events)
+
+-- no text that a command prints of itself is one
+abbrev IsOther : List ℕ → Type 0
+IsOther line = is_event_text line ≡ false
+
+refusals_other : (refused : Option EventRefused) → Each IsOther (refusal_texts refused)
+refusals_other None = tt
+refusals_other (Some refused) = (refl, tt)
+
+held_other : (holder : ℕ) (line : Result (List Entry) ℕ) → IsOther (with_newline (held_text holder line))
+held_other holder (Ok line) = refl
+held_other holder (Err shard) = refl
+
+each_holder : (w : WorldState) (nodes : List ℕ) → Each IsOther (map (holder_text w) nodes)
+each_holder w [] = tt
+each_holder w (holder ∷ others) = (held_other holder (line_told w holder), each_holder w others)
+
+holders_other : (w : WorldState) (nodes : List ℕ) → Each IsOther (holder_texts w nodes)
+holders_other w [] = (refl, tt)
+holders_other w (holder ∷ others) = each_holder w (holder ∷ others)
+
+post_other : (w : WorldState) (word : NodeWord) (bytes : List ℕ) (node : Option ℕ) → Each IsOther (post_texts w word bytes node)
+post_other w word bytes None = (refl, tt)
+post_other w word bytes (Some node) = refusals_other (refusal w (Post node bytes))
+
+own_other : (w : WorldState) (command : Command) → Each IsOther (own_texts w command)
+own_other w Nothing = tt
+own_other w (Append client bytes) = post_other w client bytes (node_of_word client)
+own_other w (Deliver message) = refusals_other (refusal w (DeliverEvent message))
+own_other w (Flow first last) = tt
+own_other w Lines = holders_other w (holders w)
+
+others_none : (lines : List (List ℕ)) → Each IsOther lines → filter is_event_text lines ≡ []
+others_none [] h = refl
+others_none (line ∷ lines) h =
+    ap (λ (b : Bool). if b then line ∷ filter is_event_text lines else filter is_event_text lines) h.0 ∙ others_none lines h.1
+
+abbrev IsOwn : WorldState → List WorldEvent → List ℕ → Type 0
+IsOwn start events line = is_event_text line ≡ false → IsOwnText start events line
+
+own_each : (w : WorldState) (events : List WorldEvent) (command : Command) → Each (IsOwn w events) (own_texts w command)
+own_each w events command = in_each (IsOwn w events) (own_texts w command) (λ line among other. record { passed = []; on_way = record { rest = events; is = refl }; command = command; among = among })
+
+events_each : (w : WorldState) (events : List WorldEvent) (told : List Event) → Each (IsOwn w events) (event_texts told)
+events_each w events [] = tt
+events_each w events (event ∷ told) = (λ other. let wrong : true ≡ false = sym (event_is event) ∙ other in cc, events_each w events told)
+
+pub made_nothing : (w : WorldState) (events : List WorldEvent) → Made w events [] []
+made_nothing w events = record { lines = []; text_is = refl; events_are = refl; own = tt }
+
+-- the texts of a command
+pub made_command : (w : WorldState) (events : List WorldEvent) (command : Command) (told : List Event) → Made w events (printed (own_texts w command ++ event_texts told)) told
+made_command w events command told = record {
+  lines = own_texts w command ++ event_texts told;
+  text_is = refl;
+  events_are =
+      filter-append is_event_text (own_texts w command) (event_texts told)
+      ∙ ap (λ (lines : List (List ℕ)). lines ++ filter is_event_text (event_texts told)) (others_none (own_texts w command) (own_other w command))
+      ∙ events_all told;
+  own = each_append (IsOwn w events) (own_texts w command) (event_texts told) (own_each w events command) (events_each w events told);
+}
+
+-- one text behind another
+module _ (start now : WorldState) (events more : List WorldEvent) (now_is : now ≡ run events start) where
+  own_before : (line : List ℕ) → IsOwn start events line → IsOwn start (events ++ more) line
+  own_before line h other =
+      let own = h other in
+      record { passed = own.passed; on_way = front_trans own.passed events (events ++ more) own.on_way (front_append events more); command = own.command; among = own.among }
+
+  own_behind : (line : List ℕ) → IsOwn now more line → IsOwn start (events ++ more) line
+  own_behind line h other =
+      let own = h other in
+      let way = own.on_way in
+      record {
+        passed = events ++ own.passed;
+        on_way = record { rest = way.rest; is = ap (λ (later : List WorldEvent). events ++ later) way.is ∙ sym (append_assoc events own.passed way.rest) };
+        command = own.command;
+        among = subst (λ (w : WorldState). In line (own_texts w own.command)) (ap (run own.passed) now_is ∙ sym (run_append events own.passed start)) own.among;
+      }
+
+  pub made_append : (text next : List ℕ) (told later : List Event) → Made start events text told → Made now more next later → Made start (events ++ more) (text ++ next) (told ++ later)
+  made_append text next told later p q = record {
+    lines = p.lines ++ q.lines;
+    text_is = ap (λ (t : List ℕ). t ++ next) p.text_is ∙ ap (λ (t : List ℕ). printed p.lines ++ t) q.text_is ∙ sym (flat_map-append (λ (line : List ℕ). line) p.lines q.lines);
+    events_are =
+        filter-append is_event_text p.lines q.lines
+        ∙ ap (λ (lines : List (List ℕ)). lines ++ filter is_event_text q.lines) p.events_are
+        ∙ ap (λ (lines : List (List ℕ)). event_texts told ++ lines) q.events_are
+        ∙ sym (map-append (λ (event : Event). with_newline (event_text event)) told later);
+    own = each_append (IsOwn start (events ++ more)) p.lines q.lines
+        (each_weaker (IsOwn start events) (IsOwn start (events ++ more)) own_before p.lines p.own)
+        (each_weaker (IsOwn now more) (IsOwn start (events ++ more)) own_behind q.lines q.own);
+  }

@@ -1,0 +1,6 @@
+pub mod Decimals
+pub mod Lacks
+pub mod NumberWords
+pub mod Newlines
+pub mod Sayable
+pub mod Spelling

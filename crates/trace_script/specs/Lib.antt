@@ -1,0 +1,10 @@
+pub mod Digits
+pub mod Nodes
+pub mod Names
+pub mod Script
+pub mod Spelling
+pub mod EntryTexts
+pub mod EventTexts
+pub mod RefusalTexts
+pub mod LineTexts
+pub mod EndTexts
