@@ -72,11 +72,6 @@ chain_same from (x ∷ xs) (y ∷ ys) same chain =
       chain_same (batch_end x) xs ys same.2 (subst (λ (n : ℕ). IsChain n ys) ends chain.1),
     )
 
-restart : (from : ℕ) (xs : List Batch) → IsChain from xs → IsChain (flight_start xs) xs
-restart from [] chain = tt
-restart from (x ∷ xs) chain =
-    (record { begins = refl; some = chain.0.some; most = chain.0.most; within = chain.0.within }, chain.1)
-
 pub chain_push : (from : ℕ) (xs : List Batch) (b : Batch) → IsChain from xs → IsNext (flight_end from xs) b → IsChain from (xs ++ b ∷ [])
 chain_push from [] b chain next = (next, tt)
 chain_push from (x ∷ xs) b chain next = (chain.0, chain_push (batch_end x) xs b chain.1 next)

@@ -82,10 +82,6 @@ bit_of-moved words by j short inside = elim (cases_lt j (64 * by)) [
 ]
 
 -- ---- a move within words
-pub length-shifted : (by carried : ℕ) (words : List ℕ) → length (shifted by carried words) ≡ length words
-length-shifted by carried [] = refl
-length-shifted by carried (word ∷ words) = ap suc (length-shifted by (word / 2 ^ (64 - by)) words)
-
 -- the low bits of a number that is cut at bit k
 bit_at-mod : (n k i : ℕ) → i < k → bit_at (n % 2 ^ k) i ≡ bit_at n i
 bit_at-mod n k i low = sym (bit_at_cat_low (n / 2 ^ k) k (n % 2 ^ k) i low) ∙ ap (λ (m : ℕ). bit_at m i) (shr_split n k)
