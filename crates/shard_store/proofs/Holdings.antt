@@ -13,12 +13,6 @@ abbrev pub Pair : Type 0
 Pair = Identity × List ℕ
 
 -- ---- a record that isn't held
-pub absent_bytes : (held : List Pair) (id : Identity) → is_held held id ≡ false → held_bytes held id ≡ None
-absent_bytes [] id absent = refl
-absent_bytes (x ∷ xs) id absent =
-    let parts = or_parts (same_id x.0 id) (is_held xs id) absent in
-    rw parts.0 (absent_bytes xs id parts.1)
-
 pub absent_without : (held : List Pair) (id : Identity) → is_held held id ≡ false → without_held held id ≡ held
 absent_without [] id absent = refl
 absent_without (x ∷ xs) id absent =
@@ -64,15 +58,6 @@ distinct_filter p (x ∷ xs) distinct =
     by_test : (kept : Bool) → not (is_held (filter p xs) x.0) ≡ true → is_distinct (filter p xs) ≡ true → is_distinct (cond kept (x ∷ filter p xs) (filter p xs)) ≡ true
     by_test true first rest = and_from (not (is_held (filter p xs) x.0)) (is_distinct (filter p xs)) first rest
     by_test false first rest = rest
-
--- taking a record out again changes nothing
-pub without_absent : (held : List Pair) (id : Identity) → is_held (without_held held id) id ≡ false
-without_absent [] id = refl
-without_absent (x ∷ xs) id = by_test (same_id x.0 id) refl (without_absent xs id)
-  where
-    by_test : (b : Bool) → same_id x.0 id ≡ b → is_held (without_held xs id) id ≡ false → is_held (cond (not b) (x ∷ without_held xs id) (without_held xs id)) id ≡ false
-    by_test true is rest = rest
-    by_test false is rest = or_from (same_id x.0 id) (is_held (without_held xs id) id) is rest
 
 -- what is held beside a cell that got the held data, if there was some
 pub drawn_rest : (held : List Pair) (id : Identity) → without_held held id ≡ held_beside (filled_or_open (held_bytes held id)) held id

@@ -1,5 +1,5 @@
 -- Identities that are one.
-use Rattle.std.proofs.Common.{◌≡◌, ℕ, Bool, true, false, eqb, subst, sym, ap, ◌∙◌, refl}
+use Rattle.std.proofs.Common.{◌≡◌, ℕ, true, false, eqb, subst, sym, ap, ◌∙◌, refl}
 use Rattle.std.proofs.lemmas.Bool.{and_parts, and_from, eqb-true, eq-eqb, false_from_ne_true, true≢false}
 use Rattle.rec_id.specs.Identity.{Identity}
 use Rattle.rec_id.specs.Identity.{same_id}
