@@ -1,4 +1,4 @@
-use Rattle.std.proofs.Common.{◌≡◌, ℕ, List, [], ◌∷◌, Some, refl}
+use Rattle.std.proofs.Common.{◌≡◌, [], ◌∷◌, Some, refl}
 use Rattle.std.specs.Prelude.{replicate}
 use Rattle.view_config.specs.declared.edition.Mode.TheVariants.{M}
 use Rattle.lazy_msgs.specs.declared.msg.Msg.TheVariants.{Append, AppendAck, Place, Placed, Stable, Probe, ProbeAck}
