@@ -1,7 +1,7 @@
 //! A batch with room for all its answers.
 
 ghost use Rattle.std.specs.Prelude.{◌≡◌, ◌+◌, ◌<◌, ◌==◌, if◌then◌else◌, IfOk};
-ghost use Rattle.lazy_rules.specs.Flight.{new_batch, answered_by, has_all, is_finished, is_placing_to, is_ordering_to, lacks_place, lacks_order, now_ordering};
+ghost use Rattle.lazy_rules.specs.Flight.{new_batch, has_all, is_finished, is_placing_to, is_ordering_to, lacks_place, lacks_order, now_ordering, order_noted, place_noted};
 ghost use Rattle.binder.specs.Binding.{outline};
 
 use crate::answers::Answers;
@@ -106,7 +106,7 @@ impl Slot {
     /// Notes the shard's answer where the batch is being placed and ends at `upto`, and says whether.
     pub(crate) fn note_place(&mut self, shard: u32, upto: u32) -> bool
         requires { shard < self.old.shards }
-        ensures noted { self.new ≡ record self.old { batch = (if is_placing_to upto self.old.batch then record self.old.batch { placed = answered_by self.old.batch.placed shard } else self.old.batch) } }
+        ensures noted { self.new ≡ record self.old { batch = place_noted upto shard self.old.batch } }
         ensures here { result ≡ is_placing_to upto self.old.batch }
     {
         let here = !self.ordering && self.ends_at(upto);
@@ -119,7 +119,7 @@ impl Slot {
     /// Notes the follower's answer where the batch is ordered and ends at `upto`, and says whether.
     pub(crate) fn note_order(&mut self, follower: u32, upto: u32) -> bool
         requires { follower < self.old.followers }
-        ensures noted { self.new ≡ record self.old { batch = (if is_ordering_to upto self.old.batch then record self.old.batch { ordered = answered_by self.old.batch.ordered follower } else self.old.batch) } }
+        ensures noted { self.new ≡ record self.old { batch = order_noted upto follower self.old.batch } }
         ensures here { result ≡ is_ordering_to upto self.old.batch }
     {
         let here = self.ordering && self.ends_at(upto);

@@ -1,4 +1,4 @@
-use Rattle.std.specs.Prelude.{ℕ, ◌+◌, ◌-◌, ◌≤◌, List, ◌++◌, length}
+use Rattle.std.specs.Prelude.{ℕ, ◌+◌, ◌-◌, ◌≤◌, List, [], ◌++◌, length, take, drop}
 use Rattle.rec_id.specs.declared.event.Event.{Event}
 use Rattle.lazy_msgs.specs.declared.msg.Msg.{Msg}
 use Rattle.lazy_msgs.specs.Weight.{sends_weight}
@@ -22,4 +22,22 @@ put_on out sends events = record {
   events = out.events ++ events;
   messages_left = out.messages_left - length sends;
   weight_left = out.weight_left - sends_weight sends;
+}
+
+-- the outbox with nothing in it, and with no more than its first messages and events: the room of what goes
+-- is there again
+abbrev pub emptied : Out → Out
+emptied out = record {
+  sends = [];
+  events = [];
+  messages_left = out.messages_left + length out.sends;
+  weight_left = out.weight_left + sends_weight out.sends;
+}
+
+abbrev pub cut_to : Out → ℕ → ℕ → Out
+cut_to out sends events = record {
+  sends = take sends out.sends;
+  events = take events out.events;
+  messages_left = out.messages_left + (length out.sends - sends);
+  weight_left = out.weight_left + sends_weight (drop sends out.sends);
 }

@@ -2,7 +2,7 @@
 
 ghost use Rattle.std.specs.Prelude.{◌≡◌, ◌+◌, ◌-◌, ◌^◌, ◌<◌, ◌≤◌, [], ◌∷◌, length, take, drop, IfSome, IfNone, OnOk, OnErr, Err};
 ghost use Rattle.lazy_msgs.specs.Weight.{sends_weight};
-ghost use Rattle.lazy_msgs.specs.Outbox.{Out, Fits, put_on};
+ghost use Rattle.lazy_msgs.specs.Outbox.{Out, Fits, put_on, cut_to, emptied};
 
 use crate::{Msg, OutboxRefused, message_weight};
 use plain_lists::Sequence;
@@ -154,7 +154,7 @@ impl Outbox {
 
     /// Takes out all messages and events.
     pub fn clear(&mut self)
-        ensures { self.new ≡ record { sends = []; events = []; messages_left = self.old.messages_left + length self.old.sends; weight_left = self.old.weight_left + sends_weight self.old.sends } }
+        ensures { self.new ≡ emptied self.old }
     {
         self.sends.truncate(0);
         self.events.truncate(0);
@@ -166,7 +166,7 @@ impl Outbox {
     pub fn cut_back(&mut self, sends: usize, events: usize)
         requires sends { sends ≤ length self.old.sends }
         requires events { events ≤ length self.old.events }
-        ensures { self.new ≡ record { sends = take sends self.old.sends; events = take events self.old.events; messages_left = self.old.messages_left + (length self.old.sends - sends); weight_left = self.old.weight_left + sends_weight (drop sends self.old.sends) } }
+        ensures { self.new ≡ cut_to self.old sends events }
     {
         let used = self.weight;
         let cut = weight_from(self.sends.as_slice(), sends);

@@ -63,13 +63,18 @@ abbrev pub has_ordering : List Batch → ℕ → Bool
 has_ordering flight upto = list_any (is_ordering_to upto) flight
 
 -- the answer of a shard's primary, or of a follower, is noted at the batch that ends here
+abbrev pub place_noted : ℕ → ℕ → Batch → Batch
+place_noted upto shard batch = if is_placing_to upto batch then record batch { placed = answered_by batch.placed shard } else batch
+
+abbrev pub order_noted : ℕ → ℕ → Batch → Batch
+order_noted upto follower batch =
+    if is_ordering_to upto batch then record batch { ordered = answered_by batch.ordered follower } else batch
+
 abbrev pub with_place : List Batch → ℕ → ℕ → List Batch
-with_place flight shard upto =
-    map (λ batch. if is_placing_to upto batch then record batch { placed = answered_by batch.placed shard } else batch) flight
+with_place flight shard upto = map (place_noted upto shard) flight
 
 abbrev pub with_order : List Batch → ℕ → ℕ → List Batch
-with_order flight follower upto =
-    map (λ batch. if is_ordering_to upto batch then record batch { ordered = answered_by batch.ordered follower } else batch) flight
+with_order flight follower upto = map (order_noted upto follower) flight
 
 -- PASS: a batch that is being placed is to be ordered where every primary, one of each of so many
 -- shards, answered for it and no batch before it is still being placed

@@ -5,9 +5,11 @@ use Rattle.law_cases.proofs.laws.tail_reads_are_forced.Goals as goal
 
 pub returns : goal.returns
 returns c = record {
-  forced = λ history line h i j client read start from entries tail lt b a. tail_forced history line h.slices i j client read start from entries tail lt b a;
-  from = λ history line h i j client read start from entries t lt b a. (tail_count history line h.slices i j client read start from entries t lt b a).0;
-  count = λ history line h i j client read start from entries t lt b a.
-      let k = tail_count history line h.slices i j client read start from entries t lt b a in
+  forced = λ history line h start from entries tail told.
+      tail_forced history line h.slices told.begun told.index told.client told.read start from entries tail told.later told.begins told.answers;
+  from = λ history line h start from t entries told.
+      (tail_count history line h.slices told.begun told.index told.client told.read start from entries t told.later told.begins told.answers).0;
+  count = λ history line h start from t entries told.
+      let k = tail_count history line h.slices told.begun told.index told.client told.read start from entries t told.later told.begins told.answers in
       k.1 ∙ ap (λ (n : ℕ). min (start + READ_LIMIT) t - n) (sym k.0);
 }
