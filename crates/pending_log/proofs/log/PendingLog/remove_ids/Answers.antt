@@ -5,7 +5,7 @@ use Rattle.rec_id.specs.Identity.{has_id}
 use Rattle.pending_log.proofs.Identities.{distinct_filter}
 use Rattle.pending_log.proofs.Removal.{Turned, turned_kept, turned_room, turned_met, turned_stays, turned_back}
 use Rattle.pending_log.proofs.log.PendingLog.remove_ids.Goals as goal
-use Rattle.pending_log.proofs.log.PendingLog.remove_ids.Goals.{then-is_among+in-Some-1, then-is_among+in-None-1, else-is_among, else-loop-item-test, then-loop-item-test+then-unmet-eq0}
+use Rattle.pending_log.proofs.log.PendingLog.remove_ids.Goals.{then-is_among, else-is_among, else-loop-item-test, then-loop-item-test+then-unmet-eq0}
 
 pub push-requires : goal.push-requires
 push-requires c =
@@ -23,8 +23,7 @@ met_item c met =
 
 pub loop-item-preserved : goal.loop-item-preserved
 loop-item-preserved c = elim c.if-is_among.branch [
-  | then-is_among+in-Some-1 w ↦ rw (w.unmet-is, w.kept-is, w.self-inside-is) (met_item c (sym c.is_among.ensures ∙ w.if-is_among.true))
-  | then-is_among+in-None-1 w ↦ rw (w.unmet-is, w.kept-is, w.self-inside-is) (met_item c (sym c.is_among.ensures ∙ w.if-is_among.true))
+  | then-is_among w ↦ rw (w.unmet-is, w.kept-is, w.self-inside-is) (met_item c (sym c.is_among.ensures ∙ w.if-is_among.true))
   | else-is_among w ↦
       rw (w.unmet-is, w.kept-is, w.self-inside-is, w.push.ensures)
       (turned_stays c.args.ids.now c.self.inside.ring.items c.self.inside.ring.capacity c.loop-item._item c.loop-item.unmet c.loop-item.kept c.loop-item.self-inside.ring c.loop-item.invariant (omega arith) c.pop-item.result c.pop-item.new.self c.pop-item.ensures.items c.pop-item.ensures.capacity (sym c.is_among.ensures ∙ w.if-is_among.false))
