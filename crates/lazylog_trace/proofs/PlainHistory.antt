@@ -2,17 +2,17 @@
 use Rattle.std.proofs.Common.{◌≡◌, ℕ, zero, suc, List, [], ◌∷◌, ◌++◌, not, Option, Some, None, refl, sym, ap, ◌∙◌, subst, arith}
 use Rattle.std.specs.Prelude.{◌==◌, if◌then◌else◌, slice_get, slice_set, Ok}
 use Rattle.list_facts.specs.Lists.{In, Each}
-use Rattle.list_facts.proofs.Cases.{either}
+use Rattle.list_facts.proofs.Cases.{either, some_or_none}
 use Rattle.list_facts.proofs.Members.{each_append}
 use Rattle.list_facts.proofs.Places.{below_at, each_at}
 use Rattle.log_safety.specs.Built.{IsBuilt}
-use Rattle.log_safety.proofs.Parts.{Ghost, parts_of}
-use Rattle.log_safety.proofs.Said.{Said, AppendSays, AckGoes}
-use Rattle.log_safety.proofs.Nodes.{client_node_of, seq_node_of}
-use Rattle.log_safety.proofs.Worlds.{Holds}
-use Rattle.log_safety.proofs.Runs.{event_kept, numbered_said}
-use Rattle.log_safety.proofs.Beginning.{holds_first}
-use Rattle.log_safety.proofs.HolderLines.{every_line_lawful}
+use Rattle.log_safety.proofs.facts.Parts.{Ghost, parts_of}
+use Rattle.log_safety.proofs.facts.Said.{Said, AppendSays, AckGoes}
+use Rattle.log_safety.proofs.worlds.Delivery.{client_delivery, seq_delivery}
+use Rattle.log_safety.proofs.worlds.Holds.{Holds}
+use Rattle.log_safety.proofs.worlds.Runs.{event_kept, numbered_said}
+use Rattle.log_safety.proofs.worlds.First.{holds_first}
+use Rattle.log_safety.proofs.lines.Holders.{every_line_lawful}
 use Rattle.rec_id.specs.Identity.{Identity}
 use Rattle.rec_id.specs.Lawful.{Lawful}
 use Rattle.rec_id.specs.declared.entry.Entry.{Entry}
@@ -29,7 +29,7 @@ use Rattle.lazy_msgs.specs.declared.msg.Msg.{Msg}
 use Rattle.lazy_msgs.specs.declared.msg.Msg.TheVariants.{Append as AppendMsg, AppendAck}
 use Rattle.lazy_msgs.specs.declared.refused.EventRefused.{EventRefused}
 use Rattle.lazy_msgs.specs.Step.{Row}
-use Rattle.lazy_rules.specs.ClientRules.{acknowledged, acknowledged_at, acknowledges, client_took, finishes, invokes, is_complete, noted, on_append_ack, place_of}
+use Rattle.lazy_rules.specs.ClientRules.{advances, client_took, finishes, invokes, is_complete, noted}
 use Rattle.lazy_rules.specs.ClientState.{ClientState, OpenAppend}
 use Rattle.lazy_rules.specs.Door.{is_turned_away}
 use Rattle.lazy_rules.specs.Holders.{holders}
@@ -60,22 +60,17 @@ seq_clean s from view id bytes = either IsCleanRow (is_turned_away s.shape from 
     (λ h. either IsCleanRow (has_room s) (answers (with_item s id bytes) id.client (AppendAck view id)) (stays s) (λ i. tt) (λ i. tt))))
 
 -- a client tells that an append is acknowledged
-acknowledges_clean : (c : ClientState) (i : ℕ) (append : OpenAppend) → IsCleanRow (acknowledges c i append)
-acknowledges_clean c i append = either IsCleanRow (is_complete c append) (finishes c i append) (stays (record c { unfinished = slice_set c.unfinished i append })) (λ e. (tt, tt)) (λ e. tt)
-
-at_clean : (c : ClientState) (node i : ℕ) (append : Option OpenAppend) → IsCleanRow (acknowledged_at c node i append)
-at_clean c node i None = tt
-at_clean c node i (Some append) = acknowledges_clean c i (noted append node)
-
-acknowledged_clean : (c : ClientState) (node : ℕ) (place : Option ℕ) → IsCleanRow (acknowledged c node place)
-acknowledged_clean c node None = tt
-acknowledged_clean c node (Some i) = at_clean c node i (slice_get c.unfinished i)
+advances_clean : (c : ClientState) (i : ℕ) (append : OpenAppend) → IsCleanRow (advances c i append)
+advances_clean c i append = either IsCleanRow (is_complete c append) (finishes c i append) (stays (record c { unfinished = slice_set c.unfinished i append })) (λ e. (tt, tt)) (λ e. tt)
 
 client_clean : (c : ClientState) (from view : ℕ) (id : Identity) → IsCleanRow (client_took c from (AppendAck view id))
-client_clean c from view id = either IsCleanRow (is_turned_away c.shape from (AppendAck view id)) (stays c) (on_append_ack c from view id) (λ e. tt)
-    (λ e. either IsCleanRow (not (view == c.config.view)) (stays c) (if not (id.client == c.client) then stays c else (if not (has_node c.config.seq from) then stays c else acknowledged c from (place_of c id.number))) (λ f. tt)
-    (λ f. either IsCleanRow (not (id.client == c.client)) (stays c) (if not (has_node c.config.seq from) then stays c else acknowledged c from (place_of c id.number)) (λ h. tt)
-    (λ h. either IsCleanRow (not (has_node c.config.seq from)) (stays c) (acknowledged c from (place_of c id.number)) (λ i. tt) (λ i. acknowledged_clean c from (place_of c id.number)))))
+client_clean c from view id = search (either (IsCleanRow {S = ClientState}), some_or_none {A = ℕ} (IsCleanRow {S = ClientState}), some_or_none {A = OpenAppend} (IsCleanRow {S = ClientState}), unchanged, noted_clean) depth 12
+  where
+    unchanged : IsCleanRow (stays c)
+    unchanged = tt
+
+    noted_clean : (i : ℕ) (append : OpenAppend) → IsCleanRow (advances c i (noted append from))
+    noted_clean i append = advances_clean c i (noted append from)
 
 module _ (shape : Dimensions) (formed : IsShape shape) (g : Ghost) (w : WorldState) (holds : Holds shape g w) (clean : Each IsClean w.history) where
   abbrev Keeps : WorldState → Type 0
@@ -91,22 +86,16 @@ module _ (shape : Dimensions) (formed : IsShape shape) (g : Ghost) (w : WorldSta
   append_clean : (from to time view : ℕ) (id : Identity) (bytes : Option (List ℕ)) → AppendSays shape (parts_of w) to id bytes → Keeps (received w (record { from = from; to = to; time = time; msg = AppendMsg view id bytes }) (node_of w.shape to))
   append_clean from to time view id bytes says =
       let e : Envelope = record { from = from; to = to; time = time; msg = AppendMsg view id bytes } in
-      let counted = holds.seq_count in
-      let there = says.there in
-      let node = ap (λ (d : Dimensions). node_of d to) holds.shaped ∙ ap (node_of shape) says.is_node ∙ seq_node_of shape says.index formed says.there in
-      let here = below_at w.seqs says.index (omega arith) in
-      subst (λ (o : Option Node). Keeps (received w e o)) (sym node)
-      (subst (λ (o : Option SeqState). Keeps (seq_received w says.index e o)) (sym here.1) (told_clean (seq_took here.0 from (AppendMsg view id bytes)).events (seq_clean here.0 from view id bytes)))
+      let seq : SeqState = (parts_of w).seqs says.index in
+      subst Keeps (sym (seq_delivery shape formed g w holds e says.index says.is_node says.there))
+      (told_clean (seq_took seq from (AppendMsg view id bytes)).events (seq_clean seq from view id bytes))
 
   ack_clean : (from to time view : ℕ) (id : Identity) → AckGoes shape g (parts_of w) from to view id → Keeps (received w (record { from = from; to = to; time = time; msg = AppendAck view id }) (node_of w.shape to))
   ack_clean from to time view id says =
       let e : Envelope = record { from = from; to = to; time = time; msg = AppendAck view id } in
-      let counted = holds.client_count in
-      let there = says.there in
-      let node = ap (λ (d : Dimensions). node_of d to) holds.shaped ∙ client_node_of shape to says.there in
-      let here = below_at w.clients to (omega arith) in
-      subst (λ (o : Option Node). Keeps (received w e o)) (sym node)
-      (subst (λ (o : Option ClientState). Keeps (appends_received w to e o)) (sym here.1) (told_clean (client_took here.0 from (AppendAck view id)).events (client_clean here.0 from view id)))
+      let client : ClientState = (parts_of w).clients to in
+      subst Keeps (sym (client_delivery shape formed g w holds e says.there refl))
+      (told_clean (client_took client from (AppendAck view id)).events (client_clean client from view id))
 
   message_clean : (from to time : ℕ) (msg : Msg) → Said shape g (parts_of w) from to msg → Keeps (received w (record { from = from; to = to; time = time; msg = msg }) (node_of w.shape to))
   message_clean from to time (AppendMsg view id bytes) says = append_clean from to time view id bytes says
