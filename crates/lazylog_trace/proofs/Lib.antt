@@ -14,3 +14,4 @@ pub mod ByteOutput
 pub mod ScriptOutput
 pub mod PrintedHistory
 pub mod TraceOutput
+pub mod Examples
