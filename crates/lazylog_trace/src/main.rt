@@ -33,8 +33,9 @@ fn words_of(rt: &HostRuntime) -> io::Result<TextList> {
     Ok(words)
 }
 
-fn main(rt: HostRuntime) -> ExitCode {
-    let Ok(words) = words_of(&rt) else {
+/// The whole program; its status is what the trace ended with.
+fn program(rt: &HostRuntime) -> ExitCode {
+    let Ok(words) = words_of(rt) else {
         return ExitCode::from(6);
     };
     let mut source = StdSource::new(rt.stdin());
@@ -42,4 +43,22 @@ fn main(rt: HostRuntime) -> ExitCode {
     let mut trail = Trail::new(rt.alloc());
     let status = top::trace_top(rt.alloc(), &words, &mut source, &mut sink, &mut trail);
     ExitCode::from(status.code())
+}
+
+fn main(rt: HostRuntime) -> ExitCode {
+    program(&rt)
+}
+
+#[cfg(test)]
+mod tests {
+    use super::*;
+    use std::test::Fail;
+
+    /// A test's only word is its own name, and that is no trace.
+    #[test]
+    fn faulty_words_end_with_2(rt: HostRuntime) -> Result<(), Fail> {
+        let ended = format!(in rt.alloc(); "{:?}", program(&rt))?;
+        assert_eq!(rt; ended.as_str(), "ExitCode(unix_exit_status(2))");
+        Ok(())
+    }
 }
