@@ -286,7 +286,7 @@ impl AppendClient {
     }
 
     /// The append at this place, whose identity is `id`, was acknowledged by one node more.
-    fn acknowledge(
+    fn note_at(
         &mut self,
         place: usize,
         sender: u32,
@@ -307,18 +307,13 @@ impl AppendClient {
     }
 
     /// The append of this client that has the identity `id` was acknowledged by one node more.
-    fn acknowledged(
-        &mut self,
-        sender: u32,
-        id: RecordId,
-        out: &mut Outbox,
-    ) -> Result<(), StepRefused>
+    fn note(&mut self, sender: u32, id: RecordId, out: &mut Outbox) -> Result<(), StepRefused>
         requires { id ≡ id_of self.old id.number }
         ensures { StepsTo (notes self.old sender id.number) self.old self.new out.old out.new result StepRefused.Over }
     {
         let number = id.number();
         match self.place_of(number) {
-            Some(place) => self.acknowledge(place, sender, id, out),
+            Some(place) => self.note_at(place, sender, id, out),
             None => Ok(()),
         }
     }
@@ -342,7 +337,7 @@ impl AppendClient {
         if !self.config.seq.as_slice().contains(&sender) {
             return Ok(());
         }
-        self.acknowledged(sender, id, out)
+        self.note(sender, id, out)
     }
 
     /// Takes an acknowledgement of a sequencing replica.
