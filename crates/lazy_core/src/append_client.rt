@@ -268,7 +268,7 @@ impl AppendClient {
     }
 
     /// These nodes have acknowledged the append at this place.
-    fn note(&mut self, place: usize, acked: NodeList)
+    fn set_acked(&mut self, place: usize, acked: NodeList)
         requires { place < length self.old.unfinished }
         ensures { (append : Unfinished) → slice_get self.old.unfinished place ≡ Some append → self.new ≡ with_acked self.old place append acked }
     {
@@ -301,7 +301,7 @@ impl AppendClient {
         if self.is_complete(id, acked.as_slice()) {
             self.finish(place, id, out)?;
         } else {
-            self.note(place, acked);
+            self.set_acked(place, acked);
         }
         Ok(())
     }
