@@ -1,6 +1,6 @@
 -- No text that is printed holds a newline.
-use Rattle.std.proofs.Common.{Option, Some, None, ◌≡◌, ℕ, zero, suc, ◌+◌, List, [], ◌∷◌, ◌++◌, Bool, true, false, not, refl, ap, ◌∙◌, arith}
-use Rattle.std.specs.Prelude.{◌==◌, nat_lt, ◌-◌, ◌/◌, ◌%◌, if◌then◌else◌, codes, decimal}
+use Rattle.std.proofs.Common.{Option, Some, None, ℕ, List, [], ◌∷◌, ◌++◌, Bool, refl, arith}
+use Rattle.std.specs.Prelude.{◌==◌, codes, decimal}
 use Rattle.list_facts.specs.Lists.{Each}
 use Rattle.list_facts.proofs.Cases.{either}
 use Rattle.rec_id.specs.Identity.{Identity}

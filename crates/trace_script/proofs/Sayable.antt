@@ -1,6 +1,6 @@
 -- What a script line says, a script line can say.
-use Rattle.std.proofs.Common.{◌≡◌, ℕ, ◌+◌, ◌<◌, ◌≤◌, ◌^◌, List, [], Bool, true, ◌&&◌, Option, Some, None, refl, arith}
-use Rattle.std.specs.Prelude.{◌==◌, ◌-◌, IfSome, nat_le, nat_lt, length, if◌then◌else◌, codes, decimal, option_map, option_and_then}
+use Rattle.std.proofs.Common.{ℕ, ◌<◌, ◌≤◌, ◌^◌, List, ◌&&◌, Option, Some, None, refl, arith}
+use Rattle.std.specs.Prelude.{◌-◌, IfSome, nat_le, nat_lt, length, if◌then◌else◌, codes, decimal, option_map, option_and_then}
 use Rattle.std.specs.List.{list_all}
 use Rattle.std.specs.Str.{bytes_eq}
 use Rattle.std.specs.Str.Parse.{digits_value}

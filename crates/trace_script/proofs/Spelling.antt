@@ -1,13 +1,13 @@
 -- Spellings read back.
-use Rattle.std.proofs.Common.{◌≡◌, ℕ, ◌+◌, ◌<◌, ◌≤◌, ◌^◌, suc, List, [], ◌∷◌, ◌++◌, length, take, drop, Bool, true, false, not, ◌&&◌, Option, Some, None, refl, sym, ap, ◌∙◌, arith, append-nil, length-append}
-use Rattle.std.specs.Prelude.{◌==◌, ◌-◌, position, nat_le, nat_lt, if◌then◌else◌, codes, decimal, option_map, option_and_then}
+use Rattle.std.proofs.Common.{◌≡◌, ℕ, ◌+◌, ◌<◌, ◌≤◌, ◌^◌, suc, List, [], ◌∷◌, ◌++◌, length, take, drop, Bool, true, not, Option, Some, None, refl, sym, ap, ◌∙◌, arith, append-nil, length-append}
+use Rattle.std.specs.Prelude.{◌==◌, ◌-◌, nat_le, nat_lt, if◌then◌else◌, decimal, option_map, option_and_then}
 use Rattle.std.specs.List.{list_all, prefix_len}
 use Rattle.std.proofs.lemmas.Bool.{and_from, and_parts, le-leb, lt-ltb, le-ltb}
 use Rattle.trace_script.specs.declared.node_word.NodeWord.{NodeWord}
 use Rattle.trace_script.specs.declared.node_word.NodeWord.TheVariants.{Client, Controller, Seq, Shard}
 use Rattle.trace_script.specs.declared.command.Command.{Command}
 use Rattle.trace_script.specs.declared.command.Command.TheVariants.{Nothing, Append, Deliver, Flow, Lines}
-use Rattle.trace_script.specs.Script.{append_of, append_with, client_of, command_of, cut, cut_at, deliver_of, flow_of, flow_with, is_data, is_visible, number_of}
+use Rattle.trace_script.specs.Script.{append_of, append_with, client_of, command_of, cut, cut_at, flow_of, flow_with, is_visible, number_of}
 use Rattle.trace_script.specs.Spelling.{IsSayable, data_word, spelling}
 use Rattle.trace_script.proofs.Lacks.{Lacks, lacks, decimal_lacks}
 use Rattle.trace_script.proofs.NumberWords.{number_is}

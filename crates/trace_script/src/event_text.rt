@@ -1,8 +1,8 @@
 //! How the events of a history are printed.
 
 ghost use Rattle.std.specs.Prelude.{◌≡◌, ◌++◌, IfOk, string_bytes, codes, decimal};
-ghost use Rattle.trace_script.specs.EntryTexts.{id_text, entry_text, parted};
-ghost use Rattle.trace_script.specs.EventTexts.{read_text, ask_text, tail_text, floor_text, event_text};
+ghost use Rattle.trace_script.specs.EntryTexts.{id_text};
+ghost use Rattle.trace_script.specs.EventTexts.{read_text, ask_text, answer_text, seen_text, floor_text, event_text};
 
 use crate::entry_text::{put_entries, put_ids};
 use rec_id::{Ask, Event, IdList, Line, RecordId, Text};
@@ -22,7 +22,7 @@ fn answer_text(
     entries: &Line,
     tail: Option<u32>,
 ) -> Result<Text, AllocError>
-    ensures { IfOk result (λ text. text ≡ read_text client read (codes " answered: from " ++ (decimal from ++ (codes ", tail " ++ (tail_text tail ++ (codes ": " ++ parted entry_text entries.now)))))) }
+    ensures { IfOk result (λ text. text ≡ answer_text client read from entries.now tail) }
 {
     let head = match tail {
         Some(tail) => {
@@ -36,7 +36,7 @@ fn answer_text(
 }
 
 fn seen_text(alloc: Global, client: u32, from: u32, ids: &IdList) -> Result<Text, AllocError>
-    ensures { IfOk result (λ text. text ≡ codes "c" ++ (decimal client ++ (codes " seen " ++ (decimal from ++ (codes ": " ++ parted id_text ids.now))))) }
+    ensures { IfOk result (λ text. text ≡ seen_text client from ids.now) }
 {
     let mut out = format!(in alloc; "c{client} seen {from}: ")?.into_bytes();
     put_ids(&mut out, ids.as_slice())?;

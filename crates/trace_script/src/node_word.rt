@@ -5,8 +5,8 @@ ghost use Rattle.trace_script.specs.Names.{word_of_node};
 ghost use Rattle.trace_script.specs.Nodes.{node_of_word};
 
 use view_config::{
-    BOARD, CONTROLLER, FIRST_SEQ, FIRST_SHARD, MAX_CLIENTS, MAX_COPIES, MAX_SEQ, MAX_SHARDS, client_id,
-    seq_id, shard_id,
+    BOARD, CONTROLLER, FIRST_SEQ, FIRST_SHARD, MAX_CLIENTS, MAX_COPIES, MAX_SEQ, MAX_SHARDS,
+    client_id, seq_id, shard_id,
 };
 
 /// What a word names: a node, by its role and its numbers, which may be ones that no node has.

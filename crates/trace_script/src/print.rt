@@ -105,3 +105,78 @@ pub fn print_read_fault(alloc: Global, out: &mut Text) -> Result<(), AllocError>
 {
     out.append(text_of(String::from_str(alloc, "stopped: read fault")?))
 }
+
+#[cfg(test)]
+mod tests {
+    use super::*;
+    use crate::{Command, read_line};
+    use plain_lists::Sequence;
+    use rec_id::{Bytes, Entry, RecordId};
+    use std::process::Abort;
+    use std::test::Fail;
+
+    fn line_of(alloc: Global) -> Result<Line, Fail> {
+        let mut line = Sequence::new(alloc);
+        line.push(Entry::Kept(RecordId::new(0, 1)?, Bytes::copy(alloc, b"a")?))?;
+        line.push(Entry::Noop(RecordId::new(0, 2)?))?;
+        line.push(Entry::Gone(RecordId::new(1, 1)?))?;
+        Ok(line)
+    }
+
+    fn is_printed(rt: &impl Abort, out: &Text, want: &[u8]) {
+        assert_eq!(rt; out.as_slice(), want);
+    }
+
+    #[test]
+    fn texts_are_printed(rt: HostRuntime) -> Result<(), Fail> {
+        let alloc = rt.alloc();
+        let mut out = Sequence::new(alloc);
+        let answer = Event::Answer {
+            client: 0,
+            read: 1,
+            from: 0,
+            entries: line_of(alloc)?,
+            tail: Some(3),
+        };
+        print_event(alloc, &answer, &mut out)?;
+        is_printed(
+            &rt,
+            &out,
+            b"c0 read 1 answered: from 0, tail 3: c0#1=a c0#2! c1#1~",
+        );
+        out.truncate(0);
+        print_refused(alloc, &EventRefused::Crashed(264), &mut out)?;
+        print_no_node(alloc, &NodeWord::Shard(1, 9), &mut out)?;
+        is_printed(&rt, &out, b"refused: d0.0 crashedrefused: no node d1.9");
+        out.truncate(0);
+        print_line(alloc, 256, &line_of(alloc)?, &mut out)?;
+        print_lost(alloc, 257, 1, &mut out)?;
+        print_no_holder(alloc, &mut out)?;
+        is_printed(
+            &rt,
+            &out,
+            b"line taken: c0#1=a c0#2! c1#1~line s0: lost shard 1no holder",
+        );
+        out.truncate(0);
+        print_end(alloc, 7, 6, &mut out)?;
+        print_bad_line(alloc, 4, &mut out)?;
+        print_limit(alloc, 5, &mut out)?;
+        print_read_fault(alloc, &mut out)?;
+        is_printed(
+            &rt,
+            &out,
+            b"end: 7 events, 6 messagesstopped: bad line 4stopped: limit at 5stopped: read fault",
+        );
+        Ok(())
+    }
+
+    #[test]
+    fn an_append_is_read(rt: HostRuntime) -> Result<(), Fail> {
+        let Command::Append(client, bytes) = read_line(rt.alloc(), b"append c300 a=b")? else {
+            return Err(Fail::new("no append"));
+        };
+        assert_eq!(rt; client, NodeWord::Client(300));
+        assert_eq!(rt; bytes.as_slice(), b"a=b".as_slice());
+        Ok(())
+    }
+}
