@@ -18,6 +18,8 @@ use std::marker::Model;
 /// How many frames are held at most.
 const HELD: usize = 16;
 
+/// The injector of one node. It takes memory when it is made, and later only for the copies of frames
+/// that are repeated.
 #[derive(Drop)]
 pub struct Chaos {
     generator: Pcg32,

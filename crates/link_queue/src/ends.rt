@@ -68,7 +68,8 @@ impl Model for TakeEnd {
 }
 
 impl SendEnd {
-    /// Puts `frame`, or hands it back where the link was full at a moment of the call.
+    /// Puts `frame`, or hands it back where the link was full at a moment of the call. Fewer than 2^62
+    /// frames may have been put before.
     pub fn put<R: Wait>(&mut self, rt: &R, frame: Frame) -> Result<(), Frame>
         requires { length self.old.sent < 2 ^ 62 }
         ensures link { (self.new.link ≡ self.old.link) × (self.new.number ≡ self.old.number) × (self.new.capacity ≡ self.old.capacity) }
@@ -109,6 +110,7 @@ impl TakeEnd {
 }
 
 /// Makes a link for up to `capacity` frames (1 to 4,096), and takes all the memory that its ends need.
+/// `number` is its name in contracts; two links may have the same.
 pub fn link(alloc: Global, number: u32, capacity: usize) -> Result<(SendEnd, TakeEnd), AllocError>
     requires { (1 ≤ capacity) × (capacity ≤ 4096) }
     ensures { IfOk result (λ ends. IsFresh number capacity ends.0 ends.1) }
