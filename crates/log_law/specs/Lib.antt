@@ -1,0 +1,10 @@
+pub mod Keys
+pub mod Told
+pub mod Pairs
+pub mod Places
+pub mod Reaches
+pub mod Tails
+pub mod Ends
+pub mod Floors
+pub mod Reads
+pub mod Verdicts
