@@ -4,6 +4,7 @@ ghost use Rattle.std.specs.Prelude.{◌≡◌, ◌+◌, ◌-◌, ◌^◌, ◌<�
 ghost use Rattle.std.specs.List.{remove, position_or_len};
 ghost use Rattle.lazy_rules.specs.Store.{bytes_in, given_up, given_up_cell, is_cell_of, is_open, closed_cell};
 ghost use Rattle.shard_store.specs.Links.{cell_at};
+ghost use Rattle.rec_id.specs.declared.item.Cell.{Cell as CellValue};
 ghost use Rattle.shard_store.specs.Kinds.{is_of};
 ghost use Rattle.shard_store.specs.Places.{Places, open_from, IsGivenUp, IsClosing};
 
@@ -117,6 +118,15 @@ impl Order {
         ensures { result ≡ position (λ cell. is_open cell.body) self.now.cells }
     {
         first_of(&self.opens)
+    }
+
+    /// The first open place but `place`, which is open: the first one once that cell is closed.
+    pub(crate) fn first_open_but(&self, place: u32) -> Option<u32>
+        requires inside { place < length self.now.cells }
+        requires open_ { is_open (cell_at self.now.cells place).body ≡ true }
+        ensures { (cell : CellValue) → is_open cell.body ≡ false → result ≡ position (λ cell. is_open cell.body) (slice_set self.now.cells place cell) }
+    {
+        first_but(&self.opens, place)
     }
 
     /// Makes room for so many cells more.
@@ -269,6 +279,17 @@ fn first_of(places: &[u32]) -> Option<u32>
     ensures { result ≡ slice_get places.now 0 }
 {
     places.first().copied()
+}
+
+/// The first of some places once the first that is this one is left out.
+fn first_but(places: &[u32], place: u32) -> Option<u32>
+    ensures { result ≡ slice_get (remove places.now (position_or_len (λ other. other == place) places.now)) 0 }
+{
+    let first = first_of(places)?;
+    if first == place {
+        return places.get(1).copied();
+    }
+    Some(first)
 }
 
 fn find_place(places: &[u32], place: u32) -> Option<usize>

@@ -1,6 +1,6 @@
 //! The store of a shard replica.
 
-ghost use Rattle.std.specs.Prelude.{◌≡◌, ◌+◌, ◌^◌, ◌<◌, ◌≤◌, [], Some, true, false, length, slice_get, IfOk, IfSome, OnOk, OnErr, option_map, IsTrue};
+ghost use Rattle.std.specs.Prelude.{ℕ, List, ◌≡◌, ◌+◌, ◌^◌, ◌<◌, ◌≤◌, [], Some, true, false, length, slice_get, IfOk, IfSome, OnOk, OnErr, option_map, IsTrue};
 ghost use Rattle.lazy_rules.specs.Store.{new_store, has, noop_at, open_at, first_open, has_open, has_open_below, bytes_of, hold, extend, extend_cells, fill, open_to_noop, open_count, raise_stable, part, trim, cut, recut, recut_cells};
 ghost use Rattle.shard_store.specs.Settling.{cells_of};
 ghost use Rattle.shard_store.specs.Sound.{IsSound, is_open_at};
@@ -79,6 +79,13 @@ impl ShardStore {
         self.stable
     }
 
+    /// Which shard's it is.
+    pub fn shard(&self) -> u32
+        ensures { result ≡ self.now.shard }
+    {
+        self.shard
+    }
+
     /// Below which place data was given up.
     pub fn floor(&self) -> u32
         ensures { result ≡ self.now.floor }
@@ -121,6 +128,14 @@ impl ShardStore {
         ensures { result ≡ first_open self.now }
     {
         self.order.first_open()
+    }
+
+    /// The first open place but `place`, which is open.
+    pub fn first_open_but(&self, place: u32) -> Option<u32>
+        requires { IsTrue (is_open_at self.now.order place) }
+        ensures { (bytes : List ℕ) → result ≡ first_open (fill self.now place bytes) }
+    {
+        self.order.first_open_but(place)
     }
 
     /// Some cell is open.
