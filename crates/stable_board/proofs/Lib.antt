@@ -1,0 +1,14 @@
+pub mod Packing
+pub mod Boards
+pub mod BoardSteps
+pub mod Seats
+pub mod Turns
+pub mod Joining
+pub mod Settling
+pub mod Opening
+pub mod Telling
+pub mod Claiming
+pub mod Closing
+pub mod Rows
+pub mod Ending
+pub mod Fours
