@@ -1,0 +1,14 @@
+pub mod Nodes
+pub mod Lists
+pub mod ReaderShape
+pub mod Claims
+pub mod Rows
+pub mod ClientTurns
+pub mod Turning
+pub mod Forming
+pub mod Keeping
+pub mod Runs
+pub mod Senders
+pub mod goes
+pub mod sizes
+pub mod counts
