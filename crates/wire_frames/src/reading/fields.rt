@@ -8,16 +8,25 @@ use rec_id::{Body, Bytes, Cell, Entry, Item, RecordId};
 use std::alloc::Global;
 use view_config::Edition;
 
-#[tactic(auto, unfolding(crate::specs::Readers::id_at, crate::specs::Readers::counted_at))]
+#[tactic(auto, unfolding(crate::specs::Readers::id_at, crate::specs::Readers::counted_at, crate::specs::Readers::number_at))]
 pub fn id_of(size: usize, left: &mut &[u8]) -> Result<RecordId, FrameError>
     ensures { Gives result left.new.now (id_at size left.old.now) }
 {
-    let client = byte_of(left)?;
-    let before = *left;
-    let number = four_of(left)?;
-    match RecordId::new(u32::from(client), number) {
-        Ok(id) => Ok(id),
-        Err(_) => Err(field(size, before)),
+    let all = *left;
+    match all {
+        [client, before @ ..] => {
+            if before.len() < 4 {
+                return Err(FrameError::Short);
+            }
+            let (number, rest) = before.split_at(4);
+            *left = rest;
+            let number = u32::from_be_bytes([number[0], number[1], number[2], number[3]]);
+            match RecordId::new(u32::from(*client), number) {
+                Ok(id) => Ok(id),
+                Err(_) => Err(field(size, before)),
+            }
+        }
+        [] => Err(FrameError::Short),
     }
 }
 

@@ -80,6 +80,22 @@ pub fn put_bytes(out: &mut Vec<u8>, edition: Edition, bytes: &Bytes) -> Result<(
     out.extend_from_slice(bytes.as_slice())
 }
 
+/// A list of bytes that is there, behind the byte that says so.
+#[tactic(auto, unfolding(lazy_msgs::specs::Frame::two, lazy_msgs::specs::Frame::four))]
+fn put_kept(out: &mut Vec<u8>, edition: Edition, bytes: &Bytes) -> Result<(), AllocError>
+    requires { BytesFit edition bytes.now }
+    ensures { OnOk result (out.new.items ≡ out.old.items ++ 1 ∷ bytes_form edition bytes.now) }
+{
+    let mut size = [0u8; 4];
+    BigEndian::write_u32(&mut size, bytes.len() as u32);
+    let [first, second, third, last] = size;
+    match edition {
+        Edition::One => out.extend_from_slice(&[1, third, last])?,
+        Edition::Two => out.extend_from_slice(&[1, first, second, third, last])?,
+    }
+    out.extend_from_slice(bytes.as_slice())
+}
+
 pub fn put_optional(
     out: &mut Vec<u8>,
     edition: Edition,
@@ -90,18 +106,18 @@ pub fn put_optional(
 {
     match bytes {
         None => put_byte(out, 0),
-        Some(bytes) => {
-            put_byte(out, 1)?;
-            put_bytes(out, edition, bytes)
-        }
+        Some(bytes) => put_kept(out, edition, bytes),
     }
 }
 
+#[tactic(auto, unfolding(lazy_msgs::specs::Frame::four))]
 pub fn put_id(out: &mut Vec<u8>, id: RecordId) -> Result<(), AllocError>
     ensures { OnOk result (out.new.items ≡ out.old.items ++ id_form id) }
 {
-    put_byte(out, id.client() as u8)?;
-    put_four(out, id.number())
+    let mut number = [0u8; 4];
+    BigEndian::write_u32(&mut number, id.number());
+    let [first, second, third, last] = number;
+    out.extend_from_slice(&[id.client() as u8, first, second, third, last])
 }
 
 pub fn put_body(out: &mut Vec<u8>, edition: Edition, body: &Body) -> Result<(), AllocError>
@@ -110,10 +126,7 @@ pub fn put_body(out: &mut Vec<u8>, edition: Edition, body: &Body) -> Result<(), 
 {
     match body {
         Body::Elsewhere => put_byte(out, 0),
-        Body::Kept(bytes) => {
-            put_byte(out, 1)?;
-            put_bytes(out, edition, bytes)
-        }
+        Body::Kept(bytes) => put_kept(out, edition, bytes),
         Body::Noop => put_byte(out, 2),
         Body::Open | Body::Gone => Ok(()),
     }
@@ -126,8 +139,7 @@ pub fn put_entry(out: &mut Vec<u8>, edition: Edition, entry: &Entry) -> Result<(
     match entry {
         Entry::Kept(id, bytes) => {
             put_id(out, *id)?;
-            put_byte(out, 1)?;
-            put_bytes(out, edition, bytes)
+            put_kept(out, edition, bytes)
         }
         Entry::Noop(id) => {
             put_id(out, *id)?;
