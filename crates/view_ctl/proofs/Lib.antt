@@ -1,0 +1,4 @@
+pub mod Flushes
+pub mod Doors
+pub mod Spares
+pub mod Names
