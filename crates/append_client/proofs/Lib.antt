@@ -1,0 +1,6 @@
+pub mod FirstPlace
+pub mod Slots
+pub mod SlotChanges
+pub mod SlotWalks
+pub mod SlotEndings
+pub mod Ignored

@@ -1,0 +1,4 @@
+pub mod Appends
+pub mod AppendState
+pub mod Sender
+pub mod Endings
