@@ -1,0 +1,7 @@
+pub mod shards
+pub mod merges
+pub mod worlds
+pub mod runs
+pub mod holding
+pub mod worked
+pub mod refused

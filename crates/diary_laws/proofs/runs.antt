@@ -1,0 +1,10 @@
+pub mod Steady
+pub mod Numbers
+pub mod Reached
+pub mod Lists
+pub mod Ready
+pub mod Onward
+pub mod Quiet
+pub mod Due
+pub mod Merged
+pub mod Found

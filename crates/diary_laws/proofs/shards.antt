@@ -1,0 +1,4 @@
+pub mod Orders
+pub mod Stores
+pub mod Pushes
+pub mod Rows
