@@ -26,6 +26,20 @@ impl Model for Answers {
     ghost invariant = { λ a. IsRoster a.count a.given.items (vec_capacity a.given) };
 }
 
+/// A clone has the same answers, and room for all.
+impl Clone for Answers {
+    ghost is_clone = { λ a b. b ≡ a };
+
+    fn clone(&self) -> Result<Self, AllocError> {
+        let mut given = self.given.clone()?;
+        given.reserve((self.count as usize).saturating_sub(given.len()))?;
+        Ok(Answers {
+            count: self.count,
+            given,
+        })
+    }
+}
+
 impl Answers {
     ghost use Rattle.binder.specs.Held.{Answering};
 

@@ -1,6 +1,6 @@
 //! The binder itself.
 
-ghost use Rattle.std.specs.Prelude.{◌≡◌, ℕ, ◌+◌, ◌^◌, ◌<◌, ◌≤◌, length, nat_lt, not, option_map, slice_get, Some, IfOk, is_some};
+ghost use Rattle.std.specs.Prelude.{◌≡◌, ℕ, ◌+◌, ◌^◌, ◌<◌, ◌≤◌, length, nat_lt, not, option_map, slice_get, Some, IfOk, is_some, vec_capacity};
 ghost use Rattle.lazy_rules.specs.Flight.{Probe, flight_end, with_batch, lacks_place, lacks_order, finish, has_later_probe, greatest, ready};
 ghost use Rattle.binder.specs.Held.{AllFor};
 ghost use Rattle.binder.specs.Sound.{IsFlight};
@@ -18,7 +18,7 @@ use std::marker::Model;
 use view_config::MAX_CLIENTS;
 
 /// The batches of a leader that are on their way, at most four, and the reads that wait, at most one
-/// of each client. No call but [`Binder::new`] takes memory.
+/// of each client. No call but [`Binder::new`] and a clone takes memory.
 #[derive(Drop)]
 pub struct Binder {
     shards: u32,
@@ -52,6 +52,31 @@ fn room(alloc: Global, shards: u32, followers: u32) -> Result<Vec<Slot>, AllocEr
     Ok(room)
 }
 
+/// The same batches, with room for as many as are on their way at most.
+fn copies(slots: &Vec<Slot>) -> Result<Vec<Slot>, AllocError>
+    ensures same { IfOk result (λ made. made.items ≡ slots.now.items) }
+    ensures room { IfOk result (λ made. FLIGHT_LIMIT ≤ vec_capacity made) }
+{
+    let mut made = slots.clone()?;
+    made.reserve((FLIGHT_LIMIT as usize).saturating_sub(made.len()))?;
+    Ok(made)
+}
+
+/// A clone has the same batches and reads, and room of its own.
+impl Clone for Binder {
+    ghost is_clone = { λ a b. b ≡ a };
+
+    fn clone(&self) -> Result<Self, AllocError> {
+        Ok(Binder {
+            shards: self.shards,
+            followers: self.followers,
+            flight: copies(&self.flight)?,
+            spare: copies(&self.spare)?,
+            reads: self.reads.clone()?,
+        })
+    }
+}
+
 impl Binder {
     ghost use Rattle.binder.specs.Binding.{Binding};
 
@@ -67,6 +92,20 @@ impl Binder {
             spare: room(alloc, shards, followers)?,
             reads: Reads::new(alloc)?,
         })
+    }
+
+    /// How many shards a batch awaits the answers of.
+    pub fn shards(&self) -> u32
+        ensures { result ≡ self.now.shards }
+    {
+        self.shards
+    }
+
+    /// How many followers a batch awaits the answers of.
+    pub fn followers(&self) -> u32
+        ensures { result ≡ self.now.followers }
+    {
+        self.followers
     }
 
     /// How many batches are on their way. Each begins where the one before it ends, and those that are
@@ -190,6 +229,21 @@ impl Binder {
         ensures few { length self.now.probes ≤ MAX_CLIENTS }
     {
         !self.reads.is_empty()
+    }
+
+    /// How many reads wait.
+    pub fn reads(&self) -> u32
+        ensures { result ≡ length self.now.probes }
+    {
+        self.reads.len()
+    }
+
+    /// Read `i` of those that wait, counted from 0 in their order.
+    pub fn read(&self, i: u32) -> Probe
+        requires { i < length self.now.probes }
+        ensures { slice_get self.now.probes i ≡ Some (probe_of result) }
+    {
+        self.reads.at(i)
     }
 
     /// The greatest target that a read waits for.

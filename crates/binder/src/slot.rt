@@ -31,6 +31,21 @@ impl Model for Slot {
     } };
 }
 
+/// A clone has the same answers, and room for all.
+impl Clone for Slot {
+    ghost is_clone = { λ a b. b ≡ a };
+
+    fn clone(&self) -> Result<Self, AllocError> {
+        Ok(Slot {
+            from: self.from,
+            count: self.count,
+            ordering: self.ordering,
+            placed: self.placed.clone()?,
+            ordered: self.ordered.clone()?,
+        })
+    }
+}
+
 impl Slot {
     ghost use Rattle.binder.specs.Held.{Held};
 

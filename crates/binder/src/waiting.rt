@@ -1,6 +1,6 @@
 //! The reads that wait, in the order in which they came, of each client one at most.
 
-ghost use Rattle.std.specs.Prelude.{◌≡◌, ◌<◌, ◌≤◌, [], length, map, option_map, if◌then◌else◌, IfOk, not, nat_lt, ◌==◌, position};
+ghost use Rattle.std.specs.Prelude.{◌≡◌, ◌<◌, ◌≤◌, [], length, map, option_map, if◌then◌else◌, IfOk, not, nat_lt, ◌==◌, position, slice_get, Some};
 ghost use Rattle.lazy_rules.specs.Flight.{has_probe_of, has_later_probe, with_probe, is_ready, ready, greatest, greatest_from};
 ghost use Rattle.binder.specs.Binding.{probe_of, after_ready};
 
@@ -25,6 +25,18 @@ impl Model for Read {
     ghost view = { λ a. record { client = a.client; read = a.number; target = a.target } };
 }
 
+impl Clone for Read {
+    ghost is_clone = { λ a b. b ≡ a };
+
+    fn clone(&self) -> Result<Self, AllocError> {
+        Ok(Read {
+            client: self.client,
+            number: self.number,
+            target: self.target,
+        })
+    }
+}
+
 /// The reads. There is room for one of each client.
 #[derive(Drop)]
 pub(crate) struct Reads {
@@ -44,6 +56,17 @@ impl Model for Reads {
     ghost invariant = { λ a. IsRoster MAX_CLIENTS (clients a.waiting.items) (vec_capacity a.waiting) };
 }
 
+/// A clone has the same reads, and room for one of each client.
+impl Clone for Reads {
+    ghost is_clone = { λ a b. b ≡ a };
+
+    fn clone(&self) -> Result<Self, AllocError> {
+        let mut waiting = self.waiting.clone()?;
+        waiting.reserve((MAX_CLIENTS as usize).saturating_sub(waiting.len()))?;
+        Ok(Reads { waiting })
+    }
+}
+
 impl Reads {
     pub(crate) fn new(alloc: Global) -> Result<Reads, AllocError>
         ensures { IfOk result (λ made. made ≡ []) }
@@ -58,6 +81,27 @@ impl Reads {
         ensures few { length self.now ≤ MAX_CLIENTS }
     {
         self.waiting.is_empty()
+    }
+
+    /// How many they are: one of each client at most.
+    pub(crate) fn len(&self) -> u32
+        ensures { result ≡ length self.now }
+    {
+        let _ = self.is_empty();
+        self.waiting.len() as u32
+    }
+
+    /// Read `i`, counted from 0.
+    pub(crate) fn at(&self, i: u32) -> Probe
+        requires { i < length self.now }
+        ensures { slice_get self.now i ≡ Some (probe_of result) }
+    {
+        let read = &self.waiting[i as usize];
+        Probe {
+            client: read.client,
+            read: read.number,
+            target: read.target,
+        }
     }
 
     fn has_later(&self, client: u32, number: u32) -> bool

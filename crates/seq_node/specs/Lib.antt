@@ -1,0 +1,6 @@
+pub mod Kept
+pub mod Batches
+pub mod Starting
+pub mod NodeView
+pub mod Ahead
+pub mod Passing
