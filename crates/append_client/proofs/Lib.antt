@@ -3,4 +3,5 @@ pub mod Slots
 pub mod SlotChanges
 pub mod SlotWalks
 pub mod SlotEndings
-pub mod Ignored
+pub mod Rows
+pub mod Acknowledged

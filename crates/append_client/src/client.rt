@@ -3,10 +3,11 @@
 ghost use Rattle.std.specs.Prelude.{◌≡◌, ◌<◌, [], length, nat_lt, IfOk};
 ghost use Rattle.std.specs.List.{list_all};
 ghost use Rattle.lazy_rules.specs.ClientState.{first_client, id_of};
-ghost use Rattle.lazy_rules.specs.ClientRules.{is_complete, homes_of};
+ghost use Rattle.lazy_rules.specs.ClientRules.{is_complete, noted, with_node};
 ghost use Rattle.lazy_rules.specs.Rows.{has_node};
 ghost use Rattle.append_client.specs.AppendState.{append_state};
 
+use crate::open_append::OpenAppend;
 use crate::open_appends::OpenAppends;
 use crate::sending::data_nodes;
 use rec_id::RecordId;
@@ -43,11 +44,19 @@ impl Model for AppendClient {
     ghost invariant = { λ a. (a.client < a.shape.clients) × (1 ≤ a.shape.shards) × (a.shape.clients ≤ MAX_CLIENTS) };
 }
 
-/// All of these nodes are among those that acknowledged.
-fn have_all(nodes: &[u32], acked: &[u32]) -> bool
-    ensures { result ≡ list_all (has_node acked.now) nodes.now }
+#[tactic(auto, using(crate::proofs::Acknowledged::has_more, crate::proofs::Acknowledged::has_other))]
+/// The node is among those that acknowledged, with one more.
+fn is_acked(acked: &[u32], more: u32, node: u32) -> bool
+    ensures { result ≡ has_node (with_node acked.now more) node }
 {
-    nodes.iter().all(|node| acked.contains(node))
+    node == more || acked.contains(&node)
+}
+
+/// All of these nodes are among those that acknowledged, with one more.
+fn have_all(nodes: &[u32], acked: &[u32], more: u32) -> bool
+    ensures { result ≡ list_all (has_node (with_node acked.now more)) nodes.now }
+{
+    nodes.iter().all(|node| is_acked(acked, more, *node))
 }
 
 impl AppendClient {
@@ -68,6 +77,14 @@ impl AppendClient {
 
     pub(crate) fn allocator(&self) -> Global {
         self.appends.allocator()
+    }
+
+    /// The number of the client whose appends these are.
+    pub fn client(&self) -> u32
+        ensures is { result ≡ self.now.client }
+        ensures within { result < self.now.shape.clients }
+    {
+        self.client
     }
 
     /// How far the append of this number has come.
@@ -106,14 +123,15 @@ impl AppendClient {
         })
     }
 
-    /// All whose word is wanted are among those that acknowledged.
-    pub(crate) fn is_complete(&self, id: RecordId, acked: &[u32]) -> bool
-        requires { id ≡ id_of self.now id.number }
-        ensures { result ≡ is_complete self.now (record { number = id.number; bytes = []; acked = acked.now }) }
+    /// All whose word is wanted are among those that acknowledged the append, with one more.
+    pub(crate) fn is_complete_with(&self, id: RecordId, append: &OpenAppend, more: u32) -> bool
+        requires { id ≡ id_of self.now append.now.number }
+        ensures { result ≡ is_complete self.now (noted append.now more) }
     {
-        if !have_all(self.config.seq.as_slice(), acked) {
+        let acked = append.acked.as_slice();
+        if !have_all(self.config.seq.as_slice(), acked, more) {
             return false;
         }
-        have_all(data_nodes(&self.shape, &self.config, id), acked)
+        have_all(data_nodes(&self.shape, &self.config, id), acked, more)
     }
 }

@@ -1,8 +1,8 @@
 //! One append that isn't finished.
 
-ghost use Rattle.std.specs.Prelude.{◌≡◌, ◌≤◌, [], IfOk, Some, None};
+ghost use Rattle.std.specs.Prelude.{◌≡◌, ◌≤◌, [], IfOk, OnOk, OnErr, Some, None};
 ghost use Rattle.std.specs.Option.{option_map};
-ghost use Rattle.lazy_rules.specs.ClientRules.{with_node, unacknowledged};
+ghost use Rattle.lazy_rules.specs.ClientRules.{noted, unacknowledged};
 ghost use Rattle.lazy_rules.specs.ClientState.{OpenAppend as Unfinished};
 
 use plain_lists::Sequence;
@@ -73,15 +73,15 @@ impl OpenAppend {
         })
     }
 
-    /// The nodes that acknowledged the append, with one more, each once.
-    pub(crate) fn acked_with(&self, node: u32) -> Result<NodeList, AllocError>
-        ensures { IfOk result (λ made. made ≡ with_node self.now.acked node) }
+    /// One node more acknowledged the append; each node is kept once.
+    fn note(&mut self, node: u32) -> Result<(), AllocError>
+        ensures ok { OnOk result (self.new ≡ noted self.old node) }
+        ensures err { OnErr result (self.new ≡ self.old) }
     {
-        let mut made = self.acked.copy()?;
-        if !self.acked.as_slice().contains(&node) {
-            made.push(node)?;
+        if self.acked.as_slice().contains(&node) {
+            return Ok(());
         }
-        Ok(made)
+        self.acked.push(node)
     }
 }
 
@@ -108,15 +108,14 @@ pub(crate) fn clear_slot(
     }
 }
 
-/// The append of the slot has these acknowledgements.
-pub(crate) fn set_acked(slot: &mut Option<OpenAppend>, acked: NodeList)
+/// One node more acknowledged the append of the slot.
+pub(crate) fn note_slot(slot: &mut Option<OpenAppend>, node: u32) -> Result<(), AllocError>
     ensures none { slot.old ≡ None → slot.new ≡ None }
-    ensures some { (a : Unfinished) → slot.old ≡ Some a → slot.new ≡ Some (record a { acked = acked }) }
+    ensures some { (a : Unfinished) → slot.old ≡ Some a → OnOk result (slot.new ≡ Some (noted a node)) }
+    ensures err { OnErr result (slot.new ≡ slot.old) }
 {
     match slot {
-        Some(append) => {
-            append.acked = acked;
-        }
-        None => {}
+        Some(append) => append.note(node),
+        None => Ok(()),
     }
 }

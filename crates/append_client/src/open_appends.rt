@@ -5,18 +5,16 @@
 //! the first slot never is empty. An append is found in one step by its number, and a slot is taken out
 //! once: there are no more slots than the window has numbers.
 
-ghost use Rattle.std.specs.Prelude.{◌≡◌, ◌+◌, ◌^◌, ◌<◌, ◌≤◌, ◌↔◌, ◌==◌, ◌++◌, ◌∷◌, [], ℕ, true, false, length, drop, map, remove, slice_set, IsTrue, IfOk, IfSome, IfNone, OnOk, Some, None};
+ghost use Rattle.std.specs.Prelude.{◌≡◌, ◌+◌, ◌^◌, ◌<◌, ◌≤◌, ◌↔◌, ◌==◌, ◌++◌, ◌∷◌, [], ℕ, true, false, length, drop, map, remove, slice_set, IsTrue, IfOk, IfSome, IfNone, OnOk, OnErr, Some, None};
 ghost use Rattle.lazy_rules.specs.ClientState.{OpenAppend as Unfinished, lowest};
-ghost use Rattle.lazy_rules.specs.ClientRules.{unacknowledged};
+ghost use Rattle.lazy_rules.specs.ClientRules.{noted, unacknowledged};
 ghost use Rattle.append_client.specs.Appends.{IsAt, IsOutside, taken, begins_open, place_in};
-ghost use Rattle.append_client.specs.Endings.{acked_by};
 
-use crate::open_append::{OpenAppend, clear_slot, copy_slot, set_acked};
+use crate::open_append::{OpenAppend, clear_slot, copy_slot, note_slot};
 use rec_id::Bytes;
 use std::alloc::{AllocError, Global};
 use std::collections::VecDeque;
 use std::marker::Model;
-use view_config::NodeList;
 
 /// The unfinished appends.
 #[derive(Drop)]
@@ -155,13 +153,15 @@ impl OpenAppends {
         }
     }
 
-    /// The append of this number is acknowledged by these nodes.
-    pub(crate) fn set_acked(&mut self, number: u32, acked: NodeList)
+    /// One node more acknowledged the append of this number.
+    pub(crate) fn note(&mut self, number: u32, node: u32) -> Result<(), AllocError>
         ensures next { self.new.next ≡ self.old.next }
-        ensures set { (i : ℕ) (a : Unfinished) → IsAt self.old.unfinished number i a → self.new.unfinished ≡ slice_set self.old.unfinished i (acked_by a acked) }
+        ensures noted { (i : ℕ) (a : Unfinished) → IsAt self.old.unfinished number i a → OnOk result (self.new.unfinished ≡ slice_set self.old.unfinished i (noted a node)) }
+        ensures err { OnErr result (self.new.unfinished ≡ self.old.unfinished) }
     {
-        if let Some(slot) = slot_of(self.first, &self.slots, number) {
-            set_acked(&mut self.slots[slot], acked);
+        match slot_of(self.first, &self.slots, number) {
+            Some(slot) => note_slot(&mut self.slots[slot], node),
+            None => Ok(()),
         }
     }
 

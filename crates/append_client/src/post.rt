@@ -6,7 +6,7 @@ ghost use Rattle.lazy_rules.specs.ClientState.{id_of};
 ghost use Rattle.lazy_rules.specs.ClientRules.{begun, invokes, on_post, post_refusal, sending};
 
 use crate::client::AppendClient;
-use crate::sending::sending;
+use crate::sending::put_sending;
 use lazy_msgs::{Outbox, PostRefused, SendList, StepRefused};
 use plain_lists::Sequence;
 use rec_id::{Bytes, Event, RecordId};
@@ -47,7 +47,9 @@ impl AppendClient {
         requires { id ≡ id_of self.now self.now.next }
         ensures { IfOk result (λ sends. sends ≡ sending self.now (begun self.now bytes.now)) }
     {
-        sending(self.allocator(), &self.shape, &self.config, id, bytes, &[])
+        let mut sends = Sequence::new(self.allocator());
+        put_sending(&mut sends, &self.shape, &self.config, id, bytes, &[])?;
+        Ok(sends)
     }
 
     /// Appends what isn't refused.

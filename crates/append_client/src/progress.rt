@@ -1,17 +1,16 @@
 //! How an unfinished append goes on: a node more acknowledges it, or it is finished.
 
-ghost use Rattle.std.specs.Prelude.{◌≡◌, ℕ};
+ghost use Rattle.std.specs.Prelude.{◌≡◌, ℕ, OnOk, OnErr};
 ghost use Rattle.lazy_msgs.specs.Step.{StepsTo};
 ghost use Rattle.lazy_rules.specs.ClientState.{id_of, OpenAppend};
-ghost use Rattle.lazy_rules.specs.ClientRules.{advances, notes};
+ghost use Rattle.lazy_rules.specs.ClientRules.{advances, is_complete, noted, notes};
 ghost use Rattle.append_client.specs.Appends.{IsAt};
-ghost use Rattle.append_client.specs.Endings.{ends, with_acked, acked_by};
+ghost use Rattle.append_client.specs.Endings.{ends, with_noted};
 
 use crate::client::AppendClient;
 use lazy_msgs::{Outbox, StepRefused};
-use plain_lists::Sequence;
 use rec_id::{Event, RecordId};
-use view_config::NodeList;
+use std::alloc::AllocError;
 
 impl AppendClient {
     /// The append of this number is finished, and the client is told so.
@@ -23,39 +22,39 @@ impl AppendClient {
     ) -> Result<(), StepRefused>
         ensures { (i : ℕ) (a : OpenAppend) → IsAt self.old.unfinished number i a → StepsTo (ends self.old i event) self.old self.new out.old out.new result StepRefused.Over }
     {
-        let alloc = self.allocator();
-        let mut events = Sequence::new(alloc);
-        events.push(event)?;
-        out.put(Sequence::new(alloc), events)?;
+        out.tell(event)?;
         self.appends.finish(number);
         Ok(())
     }
 
-    /// The append of this number is acknowledged by these nodes.
-    fn note(&mut self, number: u32, acked: NodeList)
-        ensures { (i : ℕ) (a : OpenAppend) → IsAt self.old.unfinished number i a → self.new ≡ with_acked self.old i a acked }
+    /// One node more acknowledged the append of this number.
+    fn note(&mut self, number: u32, node: u32) -> Result<(), AllocError>
+        ensures ok { (i : ℕ) (a : OpenAppend) → IsAt self.old.unfinished number i a → OnOk result (self.new ≡ with_noted self.old i a node) }
+        ensures err { OnErr result (self.new ≡ self.old) }
     {
-        self.appends.set_acked(number, acked);
+        self.appends.note(number, node)
     }
 
-    /// The append with the identity `id` is acknowledged by these nodes, and finished if they are all.
+    /// One node more acknowledged the append with the identity `id`, which is finished where those are
+    /// all.
     fn advance(
         &mut self,
         id: RecordId,
-        acked: NodeList,
+        node: u32,
+        complete: bool,
         out: &mut Outbox,
     ) -> Result<(), StepRefused>
         requires { id ≡ id_of self.old id.number }
-        ensures { (i : ℕ) (a : OpenAppend) → IsAt self.old.unfinished id.number i a → StepsTo (advances self.old i (acked_by a acked)) self.old self.new out.old out.new result StepRefused.Over }
+        ensures { (i : ℕ) (a : OpenAppend) → IsAt self.old.unfinished id.number i a → complete ≡ is_complete self.old (noted a node) → StepsTo (advances self.old i (noted a node)) self.old self.new out.old out.new result StepRefused.Over }
     {
-        if self.is_complete(id, acked.as_slice()) {
+        if complete {
             return self.finish(id.number(), Event::Acked(id), out);
         }
-        self.note(id.number(), acked);
+        self.note(id.number(), node)?;
         Ok(())
     }
 
-    /// The append of this client with the identity `id` was acknowledged by one node more.
+    /// One node more acknowledged the append of this client with the identity `id`.
     pub(crate) fn acknowledged(
         &mut self,
         sender: u32,
@@ -68,7 +67,7 @@ impl AppendClient {
         let Some(append) = self.appends.get(id.number()) else {
             return Ok(());
         };
-        let acked = append.acked_with(sender)?;
-        self.advance(id, acked, out)
+        let complete = self.is_complete_with(id, append, sender);
+        self.advance(id, sender, complete, out)
     }
 }

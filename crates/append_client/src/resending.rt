@@ -1,6 +1,6 @@
 //! What is sent for several appends at once.
 
-ghost use Rattle.std.specs.Prelude.{◌≡◌, ◌<◌, ◌≤◌, take, flat_map, IfOk};
+ghost use Rattle.std.specs.Prelude.{◌≡◌, ◌<◌, ◌≤◌, ◌++◌, take, flat_map, IfOk, OnOk};
 ghost use Rattle.lazy_rules.specs.ClientRules.{sending};
 ghost use Rattle.append_client.specs.Appends.{taken};
 ghost use Rattle.append_client.specs.Sender.{sender};
@@ -9,35 +9,29 @@ ghost use Rattle.view_config.specs.declared.limits.TheConstants.{MAX_CLIENTS};
 use crate::client::AppendClient;
 use crate::open_append::OpenAppend;
 use crate::open_appends::OpenAppends;
-use crate::sending::sending;
+use crate::sending::put_sending;
 use lazy_msgs::SendList;
 use plain_lists::Sequence;
 use rec_id::RecordId;
-use std::alloc::{AllocError, Global};
+use std::alloc::AllocError;
 use view_config::{Config, Shape};
 
-/// What the client of this number sends for an append.
-fn sending_one(
-    alloc: Global,
+/// Puts behind `sends` what the client of this number sends for an append.
+fn put_one(
+    sends: &mut SendList,
     shape: &Shape,
     config: &Config,
     client: u32,
     append: &OpenAppend,
-) -> Result<SendList, AllocError>
+) -> Result<(), AllocError>
     requires { client < MAX_CLIENTS }
-    ensures { IfOk result (λ sends. sends ≡ sending (sender shape.now config.now client) append.now) }
+    ensures { OnOk result (sends.new ≡ sends.old ++ sending (sender shape.now config.now client) append.now) }
 {
     let Ok(id) = RecordId::new(client, append.number()) else {
         unreachable!()
     };
-    sending(
-        alloc,
-        shape,
-        config,
-        id,
-        &append.bytes,
-        append.acked.as_slice(),
-    )
+    let acked = append.acked.as_slice();
+    put_sending(sends, shape, config, id, &append.bytes, acked)
 }
 
 impl OpenAppends {
@@ -52,15 +46,14 @@ impl OpenAppends {
         requires { client < MAX_CLIENTS }
         ensures { IfOk result (λ sends. sends ≡ flat_map (sending (sender shape.now config.now client)) (take limit self.now.unfinished)) }
     {
-        let alloc = self.allocator();
-        let mut sends = Sequence::new(alloc);
+        let mut sends = Sequence::new(self.allocator());
         let mut left = limit;
         for i in 0..self.slots.len() {
             if left == 0 {
                 break;
             }
             if let Some(append) = &self.slots[i] {
-                sends.append(sending_one(alloc, shape, config, client, append)?)?;
+                put_one(&mut sends, shape, config, client, append)?;
                 left -= 1;
             }
         }

@@ -1,16 +1,15 @@
 //! What a client sends for an append: its data to its shard, and its record to the sequencing
 //! replicas, in each case to those that haven't acknowledged it.
 
-ghost use Rattle.std.specs.Prelude.{◌≡◌, ◌≤◌, map, filter, not, IfOk};
+ghost use Rattle.std.specs.Prelude.{◌≡◌, ◌≤◌, ◌++◌, map, filter, not, IfOk, OnOk};
 ghost use Rattle.lazy_msgs.specs.declared.msg.Msg.TheVariants.{Append, Put};
 ghost use Rattle.lazy_rules.specs.Rows.{has_node};
 ghost use Rattle.lazy_rules.specs.ClientRules.{carried, data_nodes, homes_of, sending};
 ghost use Rattle.append_client.specs.Sender.{sender};
 
 use lazy_msgs::{Msg, SendList};
-use plain_lists::Sequence;
-use rec_id::{Bytes, RecordId, copy_optional, shard_of};
-use std::alloc::{AllocError, Global};
+use rec_id::{Bytes, RecordId, shard_of};
+use std::alloc::AllocError;
 use view_config::{Config, Mode, Shape};
 
 /// The replicas of the shard that keeps the record's data.
@@ -42,45 +41,23 @@ pub(crate) fn data_nodes<'a>(shape: &Shape, config: &'a Config, id: RecordId) ->
     }
 }
 
-/// The data, to each of the nodes that hasn't acknowledged.
-fn data_for(
-    alloc: Global,
+/// Puts the data behind `sends`, to each of the nodes that hasn't acknowledged.
+fn put_data(
+    sends: &mut SendList,
     id: RecordId,
     bytes: &Bytes,
     nodes: &[u32],
     acked: &[u32],
-) -> Result<SendList, AllocError>
-    ensures { IfOk result (λ sends. sends ≡ map (λ node. (node, Put id bytes.now)) (filter (λ node. not (has_node acked.now node)) nodes.now)) }
+) -> Result<(), AllocError>
+    ensures { OnOk result (sends.new ≡ sends.old ++ map (λ node. (node, Put id bytes.now)) (filter (λ node. not (has_node acked.now node)) nodes.now)) }
 {
-    let mut sends = Sequence::new(alloc);
     for node in nodes {
         if !acked.contains(node) {
             let bytes = bytes.clone()?;
             sends.push((*node, Msg::Put { id, bytes }))?;
         }
     }
-    Ok(sends)
-}
-
-/// The record, to each of the nodes that hasn't acknowledged.
-fn record_for(
-    alloc: Global,
-    view: u32,
-    id: RecordId,
-    bytes: &Option<Bytes>,
-    nodes: &[u32],
-    acked: &[u32],
-) -> Result<SendList, AllocError>
-    ensures { IfOk result (λ sends. sends ≡ map (λ node. (node, Append view id bytes.now)) (filter (λ node. not (has_node acked.now node)) nodes.now)) }
-{
-    let mut sends = Sequence::new(alloc);
-    for node in nodes {
-        if !acked.contains(node) {
-            let bytes = copy_optional(bytes)?;
-            sends.push((*node, Msg::Append { view, id, bytes }))?;
-        }
-    }
-    Ok(sends)
+    Ok(())
 }
 
 /// The data that goes through the sequencing replicas.
@@ -93,30 +70,46 @@ fn carried(mode: Mode, bytes: &Bytes) -> Result<Option<Bytes>, AllocError>
     }
 }
 
-/// What is sent for an append that these nodes acknowledged.
-pub(crate) fn sending(
-    alloc: Global,
+/// Puts the record behind `sends`, to each of the nodes that hasn't acknowledged.
+fn put_record(
+    sends: &mut SendList,
+    mode: Mode,
+    view: u32,
+    id: RecordId,
+    bytes: &Bytes,
+    nodes: &[u32],
+    acked: &[u32],
+) -> Result<(), AllocError>
+    ensures { OnOk result (sends.new ≡ sends.old ++ map (λ node. (node, Append view id (carried mode bytes.now))) (filter (λ node. not (has_node acked.now node)) nodes.now)) }
+{
+    for node in nodes {
+        if !acked.contains(node) {
+            let bytes = carried(mode, bytes)?;
+            sends.push((*node, Msg::Append { view, id, bytes }))?;
+        }
+    }
+    Ok(())
+}
+
+/// Puts behind `sends` what is sent for an append that these nodes acknowledged.
+pub(crate) fn put_sending(
+    sends: &mut SendList,
     shape: &Shape,
     config: &Config,
     id: RecordId,
     bytes: &Bytes,
     acked: &[u32],
-) -> Result<SendList, AllocError>
-    ensures { IfOk result (λ sends. sends ≡ sending (sender shape.now config.now id.client) (record { number = id.number; bytes = bytes.now; acked = acked.now })) }
+) -> Result<(), AllocError>
+    ensures { OnOk result (sends.new ≡ sends.old ++ sending (sender shape.now config.now id.client) (record { number = id.number; bytes = bytes.now; acked = acked.now })) }
 {
-    let carried = carried(shape.mode, bytes)?;
-    let mut sends = data_for(alloc, id, bytes, data_nodes(shape, config, id), acked)?;
-    let records = record_for(
-        alloc,
+    put_data(sends, id, bytes, data_nodes(shape, config, id), acked)?;
+    put_record(
+        sends,
+        shape.mode,
         config.view,
         id,
-        &carried,
+        bytes,
         config.seq.as_slice(),
         acked,
-    )?;
-    if sends.is_empty() {
-        return Ok(records);
-    }
-    sends.append(records)?;
-    Ok(sends)
+    )
 }

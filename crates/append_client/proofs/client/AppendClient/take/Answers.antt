@@ -1,6 +1,6 @@
 use Rattle.std.proofs.Common.{ap}
 use Rattle.lazy_rules.specs.ClientRules.{client_row}
-use Rattle.append_client.proofs.Ignored.{ignored}
+use Rattle.append_client.proofs.Rows.{ignored}
 use Rattle.append_client.proofs.client.AppendClient.take.Goals as goal
 
 pub returns-in-Flush : goal.returns-in-Flush
