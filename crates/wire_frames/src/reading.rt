@@ -1,6 +1,8 @@
 //! The envelope of a frame, field by field from left to right. Each function takes its field from the
 //! front of the bytes that are left, which then begin behind it, or tells the first offence. `size` is
 //! how many bytes there are in all, which tells at which offset a field stands.
+//!
+//! All of them but the loops over members are inlined: handing a result on costs more than reading it.
 
 ghost use Rattle.std.specs.Prelude.{◌≡◌, ◌≢◌, Ok, Err, IfOk, IfErr};
 ghost use Rattle.lazy_msgs.specs.Frame.{frame};

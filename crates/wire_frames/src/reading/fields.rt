@@ -9,6 +9,7 @@ use std::alloc::Global;
 use view_config::Edition;
 
 #[tactic(auto, unfolding(crate::specs::Readers::id_at, crate::specs::Readers::counted_at, crate::specs::Readers::number_at))]
+#[inline(always)]
 pub fn id_of(size: usize, left: &mut &[u8]) -> Result<RecordId, FrameError>
     ensures { Gives result left.new.now (id_at size left.old.now) }
 {
@@ -31,6 +32,7 @@ pub fn id_of(size: usize, left: &mut &[u8]) -> Result<RecordId, FrameError>
 }
 
 /// How many bytes of data follow.
+#[inline(always)]
 fn size_of(edition: Edition, left: &mut &[u8]) -> Result<usize, FrameError>
     ensures { Gives result left.new.now (size_at edition left.old.now) }
 {
@@ -46,6 +48,7 @@ fn size_of(edition: Edition, left: &mut &[u8]) -> Result<usize, FrameError>
 }
 
 #[tactic(auto, unfolding(crate::specs::Readers::bytes_at))]
+#[inline(always)]
 pub fn bytes_of(alloc: Global, edition: Edition, left: &mut &[u8]) -> Result<Bytes, FrameError>
     ensures { Gives result left.new.now (bytes_at edition left.old.now) }
 {
@@ -55,6 +58,7 @@ pub fn bytes_of(alloc: Global, edition: Edition, left: &mut &[u8]) -> Result<Byt
 }
 
 #[tactic(auto, unfolding(crate::specs::Readers::optional_at))]
+#[inline(always)]
 pub fn optional_of(
     alloc: Global,
     edition: Edition,
@@ -75,6 +79,7 @@ pub fn optional_of(
 }
 
 #[tactic(auto, unfolding(crate::specs::Readers::item_at))]
+#[inline(always)]
 pub fn item_of(
     alloc: Global,
     edition: Edition,
@@ -89,6 +94,7 @@ pub fn item_of(
 }
 
 #[tactic(auto, unfolding(crate::specs::Readers::body_at))]
+#[inline(always)]
 fn body_of(
     alloc: Global,
     edition: Edition,
@@ -110,6 +116,7 @@ fn body_of(
 }
 
 #[tactic(auto, unfolding(crate::specs::Readers::cell_at))]
+#[inline(always)]
 pub fn cell_of(
     alloc: Global,
     edition: Edition,
@@ -124,6 +131,7 @@ pub fn cell_of(
 }
 
 #[tactic(auto, unfolding(crate::specs::Readers::entry_at))]
+#[inline(always)]
 fn entry_of(
     alloc: Global,
     edition: Edition,
@@ -145,6 +153,7 @@ fn entry_of(
 }
 
 #[tactic(auto, unfolding(crate::specs::Readers::placed_at))]
+#[inline(always)]
 pub fn placed_of(
     alloc: Global,
     edition: Edition,

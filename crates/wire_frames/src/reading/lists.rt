@@ -70,6 +70,7 @@ fn items_in(
 }
 
 #[tactic(auto, unfolding(crate::specs::Readers::list_at))]
+#[inline(always)]
 pub fn items_of(
     alloc: Global,
     edition: Edition,
@@ -101,6 +102,7 @@ fn cells_in(
 }
 
 #[tactic(auto, unfolding(crate::specs::Readers::list_at))]
+#[inline(always)]
 pub fn cells_of(
     alloc: Global,
     edition: Edition,
@@ -126,6 +128,7 @@ fn ids_in(alloc: Global, size: usize, count: usize, left: &mut &[u8]) -> Result<
 }
 
 #[tactic(auto, unfolding(crate::specs::Readers::list_at))]
+#[inline(always)]
 pub fn ids_of(alloc: Global, size: usize, left: &mut &[u8]) -> Result<IdList, FrameError>
     ensures { Gives result left.new.now (list_at BATCH_LIMIT (id_at size) left.old.now) }
 {
@@ -154,6 +157,7 @@ fn entries_in(
 }
 
 #[tactic(auto, unfolding(crate::specs::Readers::list_at))]
+#[inline(always)]
 pub fn entries_of(
     alloc: Global,
     edition: Edition,

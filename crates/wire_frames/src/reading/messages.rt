@@ -23,6 +23,7 @@ use views::{
 
 /// The message of this kind, one that the edition has.
 #[tactic(auto, unfolding(crate::specs::Readers::fields_at))]
+#[inline(always)]
 pub fn message_of(
     alloc: Global,
     edition: Edition,

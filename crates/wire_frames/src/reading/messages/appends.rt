@@ -11,6 +11,7 @@ use lazy_msgs::Msg;
 use std::alloc::Global;
 use view_config::Edition;
 
+#[inline(always)]
 pub fn append_of(
     alloc: Global,
     edition: Edition,
@@ -25,6 +26,7 @@ pub fn append_of(
     Ok(Msg::Append { view, id, bytes })
 }
 
+#[inline(always)]
 pub fn append_ack_of(size: usize, left: &mut &[u8]) -> Result<Msg, FrameError>
     ensures { Gives result left.new.now (two_fields (counted_at size) (id_at size) AppendAck left.old.now) }
 {
@@ -33,6 +35,7 @@ pub fn append_ack_of(size: usize, left: &mut &[u8]) -> Result<Msg, FrameError>
     Ok(Msg::AppendAck { view, id })
 }
 
+#[inline(always)]
 pub fn put_of(
     alloc: Global,
     edition: Edition,
@@ -46,6 +49,7 @@ pub fn put_of(
     Ok(Msg::Put { id, bytes })
 }
 
+#[inline(always)]
 pub fn data_ack_of(size: usize, left: &mut &[u8]) -> Result<Msg, FrameError>
     ensures { Gives result left.new.now (two_fields (counted_at size) (id_at size) DataAck left.old.now) }
 {
@@ -54,6 +58,7 @@ pub fn data_ack_of(size: usize, left: &mut &[u8]) -> Result<Msg, FrameError>
     Ok(Msg::DataAck { view, id })
 }
 
+#[inline(always)]
 pub fn rejected_of(size: usize, left: &mut &[u8]) -> Result<Msg, FrameError>
     ensures { Gives result left.new.now (two_fields (id_at size) (number_at w32) Rejected left.old.now) }
 {

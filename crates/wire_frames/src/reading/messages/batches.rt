@@ -11,6 +11,7 @@ use lazy_msgs::{BATCH_LIMIT, Msg};
 use std::alloc::Global;
 use view_config::Edition;
 
+#[inline(always)]
 pub fn place_of(
     alloc: Global,
     edition: Edition,
@@ -25,6 +26,7 @@ pub fn place_of(
     Ok(Msg::Place { view, from, items })
 }
 
+#[inline(always)]
 pub fn placed_of(size: usize, left: &mut &[u8]) -> Result<Msg, FrameError>
     ensures { Gives result left.new.now (two_fields (counted_at size) (number_at w32) Placed left.old.now) }
 {
@@ -33,6 +35,7 @@ pub fn placed_of(size: usize, left: &mut &[u8]) -> Result<Msg, FrameError>
     Ok(Msg::Placed { view, upto })
 }
 
+#[inline(always)]
 pub fn copy_of(
     alloc: Global,
     edition: Edition,
@@ -47,6 +50,7 @@ pub fn copy_of(
     Ok(Msg::Copy { view, from, cells })
 }
 
+#[inline(always)]
 pub fn copied_of(size: usize, left: &mut &[u8]) -> Result<Msg, FrameError>
     ensures { Gives result left.new.now (two_fields (counted_at size) (number_at w32) Copied left.old.now) }
 {
@@ -55,6 +59,7 @@ pub fn copied_of(size: usize, left: &mut &[u8]) -> Result<Msg, FrameError>
     Ok(Msg::Copied { view, upto })
 }
 
+#[inline(always)]
 pub fn order_of(alloc: Global, size: usize, left: &mut &[u8]) -> Result<Msg, FrameError>
     ensures { Gives result left.new.now (three_fields (counted_at size) (number_at w32) (list_at BATCH_LIMIT (id_at size)) Order left.old.now) }
 {
@@ -64,6 +69,7 @@ pub fn order_of(alloc: Global, size: usize, left: &mut &[u8]) -> Result<Msg, Fra
     Ok(Msg::Order { view, from, ids })
 }
 
+#[inline(always)]
 pub fn ordered_of(size: usize, left: &mut &[u8]) -> Result<Msg, FrameError>
     ensures { Gives result left.new.now (two_fields (counted_at size) (number_at w32) Ordered left.old.now) }
 {
@@ -72,6 +78,7 @@ pub fn ordered_of(size: usize, left: &mut &[u8]) -> Result<Msg, FrameError>
     Ok(Msg::Ordered { view, upto })
 }
 
+#[inline(always)]
 pub fn stable_of(size: usize, left: &mut &[u8]) -> Result<Msg, FrameError>
     ensures { Gives result left.new.now (two_fields (counted_at size) (number_at w32) Stable left.old.now) }
 {

@@ -12,6 +12,7 @@ use lazy_msgs::Msg;
 use std::alloc::Global;
 use view_config::Edition;
 
+#[inline(always)]
 pub fn probe_of(size: usize, left: &mut &[u8]) -> Result<Msg, FrameError>
     ensures { Gives result left.new.now (two_fields (counted_at size) (counted_at size) Probe left.old.now) }
 {
@@ -20,6 +21,7 @@ pub fn probe_of(size: usize, left: &mut &[u8]) -> Result<Msg, FrameError>
     Ok(Msg::Probe { view, read })
 }
 
+#[inline(always)]
 pub fn probe_ack_of(size: usize, left: &mut &[u8]) -> Result<Msg, FrameError>
     ensures { Gives result left.new.now (two_fields (counted_at size) (counted_at size) ProbeAck left.old.now) }
 {
@@ -28,6 +30,7 @@ pub fn probe_ack_of(size: usize, left: &mut &[u8]) -> Result<Msg, FrameError>
     Ok(Msg::ProbeAck { view, read })
 }
 
+#[inline(always)]
 pub fn tail_ready_of(size: usize, left: &mut &[u8]) -> Result<Msg, FrameError>
     ensures { Gives result left.new.now (three_fields (counted_at size) (counted_at size) (number_at w32) TailReady left.old.now) }
 {
@@ -37,6 +40,7 @@ pub fn tail_ready_of(size: usize, left: &mut &[u8]) -> Result<Msg, FrameError>
     Ok(Msg::TailReady { view, read, tail })
 }
 
+#[inline(always)]
 pub fn fetch_of(size: usize, left: &mut &[u8]) -> Result<Msg, FrameError>
     ensures { Gives result left.new.now (three_fields (counted_at size) (number_at w32) (number_at w32) Fetch left.old.now) }
 {
@@ -46,6 +50,7 @@ pub fn fetch_of(size: usize, left: &mut &[u8]) -> Result<Msg, FrameError>
     Ok(Msg::Fetch { read, from, to })
 }
 
+#[inline(always)]
 pub fn part_of(
     alloc: Global,
     edition: Edition,
@@ -66,6 +71,7 @@ pub fn part_of(
     })
 }
 
+#[inline(always)]
 pub fn trim_of(size: usize, left: &mut &[u8]) -> Result<Msg, FrameError>
     ensures { Gives result left.new.now (two_fields (counted_at size) (number_at w32) Trim left.old.now) }
 {
@@ -74,6 +80,7 @@ pub fn trim_of(size: usize, left: &mut &[u8]) -> Result<Msg, FrameError>
     Ok(Msg::Trim { read, floor })
 }
 
+#[inline(always)]
 pub fn trim_ack_of(size: usize, left: &mut &[u8]) -> Result<Msg, FrameError>
     ensures { Gives result left.new.now (one_field (counted_at size) TrimAck left.old.now) }
 {
@@ -81,6 +88,7 @@ pub fn trim_ack_of(size: usize, left: &mut &[u8]) -> Result<Msg, FrameError>
     Ok(Msg::TrimAck { read })
 }
 
+#[inline(always)]
 pub fn trimmed_at_of(size: usize, left: &mut &[u8]) -> Result<Msg, FrameError>
     ensures { Gives result left.new.now (two_fields (counted_at size) (number_at w32) TrimmedAt left.old.now) }
 {

@@ -12,6 +12,7 @@ use lazy_msgs::{Msg, PENDING_LIMIT};
 use std::alloc::Global;
 use view_config::Edition;
 
+#[inline(always)]
 pub fn flush_of(
     alloc: Global,
     edition: Edition,
@@ -30,6 +31,7 @@ pub fn flush_of(
     })
 }
 
+#[inline(always)]
 pub fn flush_copy_of(
     alloc: Global,
     edition: Edition,
@@ -44,6 +46,7 @@ pub fn flush_copy_of(
     Ok(Msg::FlushCopy { view, from, cells })
 }
 
+#[inline(always)]
 pub fn flushed_of(size: usize, left: &mut &[u8]) -> Result<Msg, FrameError>
     ensures { Gives result left.new.now (one_field (counted_at size) Flushed left.old.now) }
 {
@@ -51,6 +54,7 @@ pub fn flushed_of(size: usize, left: &mut &[u8]) -> Result<Msg, FrameError>
     Ok(Msg::Flushed { view })
 }
 
+#[inline(always)]
 pub fn seal_of(size: usize, left: &mut &[u8]) -> Result<Msg, FrameError>
     ensures { Gives result left.new.now (one_field (counted_at size) Seal left.old.now) }
 {
@@ -58,6 +62,7 @@ pub fn seal_of(size: usize, left: &mut &[u8]) -> Result<Msg, FrameError>
     Ok(Msg::Seal { view })
 }
 
+#[inline(always)]
 pub fn sealed_of(
     alloc: Global,
     edition: Edition,
@@ -78,6 +83,7 @@ pub fn sealed_of(
     })
 }
 
+#[inline(always)]
 pub fn sealed_empty_of(size: usize, left: &mut &[u8]) -> Result<Msg, FrameError>
     ensures { Gives result left.new.now (one_field (counted_at size) SealedEmpty left.old.now) }
 {
@@ -85,6 +91,7 @@ pub fn sealed_empty_of(size: usize, left: &mut &[u8]) -> Result<Msg, FrameError>
     Ok(Msg::SealedEmpty { view })
 }
 
+#[inline(always)]
 pub fn new_view_of(
     alloc: Global,
     edition: Edition,
@@ -103,6 +110,7 @@ pub fn new_view_of(
     })
 }
 
+#[inline(always)]
 pub fn started_of(size: usize, left: &mut &[u8]) -> Result<Msg, FrameError>
     ensures { Gives result left.new.now (one_field (counted_at size) Started left.old.now) }
 {
@@ -110,6 +118,7 @@ pub fn started_of(size: usize, left: &mut &[u8]) -> Result<Msg, FrameError>
     Ok(Msg::Started { view })
 }
 
+#[inline(always)]
 pub fn view_is_of(alloc: Global, size: usize, left: &mut &[u8]) -> Result<Msg, FrameError>
     ensures { Gives result left.new.now (one_field (config_at size) ViewIs left.old.now) }
 {
@@ -117,6 +126,7 @@ pub fn view_is_of(alloc: Global, size: usize, left: &mut &[u8]) -> Result<Msg, F
     Ok(Msg::ViewIs { config })
 }
 
+#[inline(always)]
 pub fn claim_of(left: &mut &[u8]) -> Result<Msg, FrameError>
     ensures { Gives result left.new.now (one_field (number_at w32) Claim left.old.now) }
 {
