@@ -231,6 +231,13 @@ impl Binder {
         !self.reads.is_empty()
     }
 
+    /// This read of the client waits, or a later one.
+    pub fn has_later_read(&self, client: u32, read: u32) -> bool
+        ensures { result ≡ has_later_probe self.now.probes client read }
+    {
+        self.reads.has_later(client, read)
+    }
+
     /// How many reads wait.
     pub fn reads(&self) -> u32
         ensures { result ≡ length self.now.probes }

@@ -104,7 +104,8 @@ impl Reads {
         }
     }
 
-    fn has_later(&self, client: u32, number: u32) -> bool
+    /// This read of the client waits, or a later one.
+    pub(crate) fn has_later(&self, client: u32, number: u32) -> bool
         ensures { result ≡ has_later_probe self.now client number }
     {
         self.waiting

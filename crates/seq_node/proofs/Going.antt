@@ -257,11 +257,11 @@ ok_then P Q (Ok x) f h = f h
 ok_then P Q (Err e) f h = h
 
 -- ---- a batch of the flight is pending
-chain_at : (flight : List Batch) (bound : ℕ) → IsFlight flight → Starts bound flight → IsChain bound flight
+pub chain_at : (flight : List Batch) (bound : ℕ) → IsFlight flight → Starts bound flight → IsChain bound flight
 chain_at [] bound sound starts = tt
 chain_at (x ∷ xs) bound sound starts = subst (λ (n : ℕ). IsChain n (x ∷ xs)) starts sound.chain
 
-chain_place : (flight : List Batch) (from i : ℕ) (seen : Outline) → IsChain from flight → option_map outline (slice_get flight i) ≡ Some seen
+pub chain_place : (flight : List Batch) (from i : ℕ) (seen : Outline) → IsChain from flight → option_map outline (slice_get flight i) ≡ Some seen
     → (from ≤ seen.from) × (seen.from + seen.count ≤ flight_end from flight)
 chain_place [] from i seen chain is = let wrong : None ≡ Some seen = is in cc
 chain_place (x ∷ xs) from zero seen chain is =

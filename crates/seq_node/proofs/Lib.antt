@@ -6,3 +6,4 @@ pub mod Parts
 pub mod Forcing
 pub mod Going
 pub mod Noting
+pub mod Beginning

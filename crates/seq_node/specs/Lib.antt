@@ -4,3 +4,4 @@ pub mod Starting
 pub mod NodeView
 pub mod Ahead
 pub mod Passing
+pub mod Beginning

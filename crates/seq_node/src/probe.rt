@@ -1,14 +1,16 @@
 //! Probe: it is acknowledged, and the leader answers it, now or once all that it knows is bound.
 
 ghost use Rattle.lazy_msgs.specs.declared.msg.Msg.TheVariants.{Probe, ProbeAck};
-ghost use Rattle.std.specs.Prelude.{◌≡◌, ◌<◌, ◌∷◌, true, IfOk};
+ghost use Rattle.std.specs.Prelude.{◌≡◌, ◌+◌, ◌<◌, ◌≤◌, ◌∷◌, false, length, true, IfOk};
 ghost use Rattle.lazy_msgs.specs.Step.{StepsTo};
-ghost use Rattle.lazy_rules.specs.Rows.{answers, followed};
-ghost use Rattle.lazy_rules.specs.SeqRules.{has_positions, is_leader, on_probe, seq_took, tail_sends, waits};
-ghost use Rattle.seq_node.specs.Ahead.{ahead, Goes, IsAhead};
+ghost use Rattle.lazy_rules.specs.Flight.{has_later_probe};
+ghost use Rattle.lazy_rules.specs.Leading.{forces};
+ghost use Rattle.lazy_rules.specs.Rows.{answers, followed, sends_all};
+ghost use Rattle.lazy_rules.specs.SeqRules.{has_positions, is_leader, on_probe, seq_took, tail_sends, waits, with_waiting};
+ghost use Rattle.lazy_rules.specs.declared.limits.TheConstants.{FLIGHT_LIMIT};
+ghost use Rattle.seq_node.specs.Beginning.{pending_end, with_begun};
 
 use crate::SeqNode;
-use crate::lead::Lead;
 use crate::stable::add_stable;
 use lazy_msgs::{Msg, Outbox, SendList, StepRefused};
 use plain_lists::Sequence;
@@ -29,26 +31,65 @@ impl SeqNode {
         Ok(sends)
     }
 
-    /// The read waits, unless one as late does.
-    fn keep_read(
-        &self,
-        client: u32,
-        read: u32,
-        lead: &mut Lead,
-        sends: &mut SendList,
-    ) -> Result<(), AllocError>
+    /// From now on the read waits for all that is pending.
+    fn keep_read(&mut self, client: u32, read: u32)
         requires client { client < MAX_CLIENTS }
-        requires ahead { IsAhead self.now lead.old }
-        ensures { IfOk result (λ _. Goes self.now (waits (ahead self.now lead.old) client read) lead.new sends.old sends.new) }
+        requires fits { has_positions self.old ≡ true }
+        requires new { has_later_probe self.old.probes client read ≡ false }
+        ensures { self.new ≡ with_waiting self.old client read }
     {
         let target = self.pending_end();
-        if !lead.binder.probe(client, read, target) {
-            return Ok(());
-        }
-        self.force(lead, sends)
+        let _ = self.binder.probe(client, read, target);
     }
 
-    /// The read has to wait.
+    /// Sends these, the read waits, and batches begin; or none of it.
+    fn send_waiting(
+        &mut self,
+        client: u32,
+        read: u32,
+        room: u32,
+        limit: u32,
+        sends: SendList,
+        out: &mut Outbox,
+    ) -> Result<(), StepRefused>
+        requires client { client < MAX_CLIENTS }
+        requires leads { is_leader self.old ≡ true }
+        requires fits { has_positions self.old ≡ true }
+        requires new { has_later_probe self.old.probes client read ≡ false }
+        requires room { length self.old.flight + room ≤ FLIGHT_LIMIT }
+        requires within { limit ≤ pending_end self.old }
+        ensures { StepsTo (sends_all (with_begun (with_waiting self.old client read) room limit) sends) self.old self.new out.old out.new result StepRefused.Over }
+    {
+        out.put(sends, Sequence::new(self.alloc))?;
+        self.keep_read(client, read);
+        self.begin(room, limit);
+        Ok(())
+    }
+
+    /// The read has to wait, and none as late does.
+    fn wait_new(
+        &mut self,
+        client: u32,
+        view: u32,
+        read: u32,
+        out: &mut Outbox,
+    ) -> Result<(), StepRefused>
+        requires client { client < MAX_CLIENTS }
+        requires leads { is_leader self.old ≡ true }
+        requires fits { has_positions self.old ≡ true }
+        requires new { has_later_probe self.old.probes client read ≡ false }
+        ensures { StepsTo (followed (answers self.old client (ProbeAck view read)) (λ after. forces (with_waiting after client read))) self.old self.new out.old out.new result StepRefused.Over }
+    {
+        let room = self.room();
+        let from = self.flight_end();
+        let end = self.pending_end();
+        let mut sends = Sequence::new(self.alloc);
+        sends.push((client, Msg::ProbeAck { view, read }))?;
+        self.add_begun(room, from, end, &mut sends)?;
+        self.send_waiting(client, read, room, end, sends, out)
+    }
+
+    /// The read has to wait, unless one as late does.
     fn wait(
         &mut self,
         client: u32,
@@ -61,11 +102,11 @@ impl SeqNode {
         requires fits { has_positions self.old ≡ true }
         ensures { StepsTo (followed (answers self.old client (ProbeAck view read)) (λ after. waits after client read)) self.old self.new out.old out.new result StepRefused.Over }
     {
-        let mut lead = self.lead()?;
-        let mut sends = Sequence::new(self.alloc);
-        sends.push((client, Msg::ProbeAck { view, read }))?;
-        self.keep_read(client, read, &mut lead, &mut sends)?;
-        self.settle(lead, sends, out)
+        if self.binder.has_later_read(client, read) {
+            out.send(client, Msg::ProbeAck { view, read })?;
+            return Ok(());
+        }
+        self.wait_new(client, view, read, out)
     }
 
     /// Takes a probe that isn't turned away.

@@ -12,18 +12,18 @@ use Rattle.seq_node.proofs.node.SeqNode.send_again.Goals as goal
 pub loop-i-preserved : goal.loop-i-preserved
 loop-i-preserved c =
     let s : SeqState = c.args.self.now in
-    let flight : List Batch = c.args.lead.now.binder.flight in
+    let flight : List Batch = c.args.self.now.flight in
     let i = c.loop-i.i in
     let none : Batch = new_batch 0 0 in
     let batch : Batch = get_or flight i none in
-    let inside : i < length flight = omega (arith, c.loop-i-test.true, c.flight-i-end.ensures.count) in
+    let inside : i < length flight = omega (arith, c.loop-i-test.true, c.flight-i-end.ensures.count, ap (λ (x : SeqState). length x.flight) c.self.view_is) in
     moved c.loop-i.sends c.add_again.new.sends (resends s batch) (flat_map (resends s) (drop (i + 1) flight)) (flat_map (resends s) (drop i flight)) _
     (c.in_ok-add_again.ensures batch (slice_get-get_or flight i none inside)) (flat_map_next (resends s) flight i none inside) c.loop-i.invariant
 
 pub returns : goal.returns
 returns c =
     let s : SeqState = c.args.self.now in
-    let flight : List Batch = c.args.lead.now.binder.flight in
+    let flight : List Batch = c.args.self.now.flight in
     let i = c.loop-i.i in
-    let past : length flight ≤ i = omega (arith, c.loop-i-test.false, c.flight-i-end.ensures.count) in
+    let past : length flight ≤ i = omega (arith, c.loop-i-test.false, c.flight-i-end.ensures.count, ap (λ (x : SeqState). length x.flight) c.self.view_is) in
     ended c.loop-i.sends (flat_map (resends s) (drop i flight)) _ (ap (flat_map (resends s)) (drop_all i flight past)) c.loop-i.invariant
