@@ -1,12 +1,11 @@
 -- Batches that begin.
-use Rattle.std.proofs.Common.{◌≡◌, ℕ, zero, suc, ◌+◌, ◌-◌, ◌^◌, ◌<◌, ◌≤◌, min, List, [], ◌∷◌, ◌++◌, Bool, true, false, ◌&&◌, ◌||◌, cond, ltb, length, append_assoc, append-nil, inl, inr, Some, sym, ap, subst, ◌∙◌, refl, arith}
-use Rattle.std.specs.Prelude.{option_map, slice_get, flat_map, map, nat_lt, ◌==◌, if◌then◌else◌}
+use Rattle.std.proofs.Common.{◌≡◌, ℕ, zero, suc, ◌+◌, ◌^◌, ◌<◌, ◌≤◌, List, [], ◌∷◌, ◌++◌, Bool, true, false, ◌||◌, cond, ltb, length, append_assoc, append-nil, inl, inr, Some, sym, ap, subst, ◌∙◌, refl, arith}
+use Rattle.std.specs.Prelude.{option_map, slice_get, flat_map, map, ◌==◌, if◌then◌else◌}
 use Rattle.std.proofs.lemmas.Bool.{cases_Bool, cases_lt, lt-ltb, le-ltb, ltb-true, true≢false}
 use Rattle.std.proofs.lemmas.List.{length_push}
 use Rattle.binder.specs.declared.batch.Batch.{Batch as Outline}
 use Rattle.binder.specs.Binding.{outline}
 use Rattle.binder.specs.Sound.{IsFlight}
-use Rattle.lazy_msgs.specs.declared.msg.Msg.{Msg}
 use Rattle.lazy_msgs.specs.Step.{Row}
 use Rattle.lazy_rules.specs.declared.limits.TheConstants.{FLIGHT_LIMIT}
 use Rattle.lazy_rules.specs.Flight.{Batch, Probe, flight_end, has_probe_of, new_batch, waits_above, with_probe}
@@ -20,7 +19,7 @@ use Rattle.seq_node.specs.Kept.{IsKept, Starts}
 use Rattle.seq_node.proofs.Going.{chain_at, chain_place}
 use Rattle.seq_node.proofs.Keeping.{starts_push, end_push}
 use Rattle.seq_node.proofs.Forcing.{forcing_goes, forcing_stops}
-use Rattle.seq_node.proofs.Parts.{behind_long, begins_full, begins_none, begins_next, end_above}
+use Rattle.seq_node.proofs.Parts.{behind_long, begins_full, begins_none, begins_next}
 
 -- a batch of a replica's flight is pending
 pub within_flight : (s : SeqState) (room shards followers : ℕ) → IsKept s room shards followers → has_positions s ≡ true → IsFlight s.flight

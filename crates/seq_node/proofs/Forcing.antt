@@ -1,15 +1,12 @@
 -- Reads that wait for more than a position, and what BEGIN leaves as it is.
-use Rattle.std.proofs.Common.{◌≡◌, ℕ, zero, suc, ◌+◌, ◌<◌, ◌≤◌, max, List, [], ◌∷◌, Bool, true, false, ◌||◌, ◌&&◌, cond, ltb, length, Some, None, inl, inr, sym, ap, ◌∙◌, refl, arith}
-use Rattle.std.specs.Prelude.{Option}
-use Rattle.std.proofs.lemmas.Bool.{cases_lt, lt-ltb, le-ltb, ltb-true}
+use Rattle.std.proofs.Common.{◌≡◌, ℕ, zero, suc, max, List, [], ◌∷◌, Bool, true, false, ◌||◌, cond, ltb, Some, None, inl, inr, sym, ap, ◌∙◌, refl, arith}
+use Rattle.std.proofs.lemmas.Bool.{cases_lt, lt-ltb, le-ltb}
 use Rattle.std.proofs.lemmas.Bool.{cases_Bool}
 use Rattle.binder.specs.Binding.{after_ready}
 use Rattle.lazy_rules.specs.Flight.{Probe, flight_end, greatest, greatest_from, waits_above, ready, is_ready}
-use Rattle.lazy_rules.specs.Leading.{forcing, begins, behind, next_batch, with_next, place_sends}
-use Rattle.lazy_rules.specs.Rows.{followed, sends_all, stays}
-use Rattle.lazy_rules.specs.SeqRules.{has_positions, is_leader}
+use Rattle.lazy_rules.specs.Leading.{forcing, begins}
+use Rattle.lazy_rules.specs.Rows.{followed, stays}
 use Rattle.lazy_rules.specs.SeqState.{SeqState}
-use Rattle.lazy_rules.specs.declared.limits.TheConstants.{FLIGHT_LIMIT}
 
 or_nothing : (b : Bool) → b ≡ (b || false)
 or_nothing true = refl

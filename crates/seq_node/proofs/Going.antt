@@ -14,13 +14,13 @@ use Rattle.lazy_msgs.specs.declared.msg.Msg.TheVariants.{Place, Stable}
 use Rattle.lazy_msgs.specs.declared.limits.TheConstants.{BATCH_LIMIT}
 use Rattle.lazy_msgs.specs.Step.{Row}
 use Rattle.lazy_rules.specs.declared.limits.TheConstants.{FLIGHT_LIMIT}
-use Rattle.lazy_rules.specs.Flight.{Batch, Probe, batch_end, finish, flight_end, is_finished, lacks_place, new_batch, with_batch, waiting_probes, ready_probes, waits_above}
-use Rattle.lazy_rules.specs.Leading.{begins, behind, finishes, finishes_from, finishing, forces, forcing, items_in, leaves, next_batch, place_sends, place_to, stable_sends, without_first}
+use Rattle.lazy_rules.specs.Flight.{Batch, Probe, finish, flight_end, is_finished, lacks_place, new_batch, with_batch, waiting_probes, ready_probes}
+use Rattle.lazy_rules.specs.Leading.{begins, behind, finishes_from, finishing, forces, leaves, next_batch, place_sends}
 use Rattle.lazy_rules.specs.Roles.{first_of, followers_of, replicas_of}
 use Rattle.lazy_rules.specs.Items.{items_for}
-use Rattle.lazy_rules.specs.Rows.{each_numbered, followed, joined, sends_all, stays, to_each}
+use Rattle.lazy_rules.specs.Rows.{each_numbered, followed, sends_all, stays, to_each}
 use Rattle.lazy_rules.specs.SeqState.{SeqState}
-use Rattle.seq_node.specs.Ahead.{ahead, all_leave, first_leaves, Goes, IsAhead, told}
+use Rattle.seq_node.specs.Ahead.{ahead, first_leaves, Goes, IsAhead, told}
 use Rattle.seq_node.specs.Kept.{Starts}
 use Rattle.seq_node.specs.declared.lead.Lead.{Lead}
 use Rattle.seq_node.proofs.Keeping.{starts_push, end_push}

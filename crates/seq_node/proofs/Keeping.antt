@@ -1,17 +1,16 @@
 -- What is true of every replica stays so in its rows.
-use Rattle.std.proofs.Common.{◌≡◌, ℕ, ◌+◌, ◌-◌, ◌<◌, ◌≤◌, List, [], ◌∷◌, ◌++◌, Bool, true, false, length, map, sym, ap, subst, ◌∙◌, refl, arith}
-use Rattle.std.specs.Prelude.{Option, filter, not, nat_lt}
-use Rattle.std.specs.List.{range_with_len, list_all}
-use Rattle.std.proofs.lemmas.List.{length-drop, length-map, length-replicate, length_push}
+use Rattle.std.proofs.Common.{◌≡◌, ℕ, ◌+◌, ◌-◌, ◌<◌, ◌≤◌, List, [], ◌∷◌, ◌++◌, true, length, sym, ap, subst, ◌∙◌, refl, arith}
+use Rattle.std.specs.Prelude.{Option, not, nat_lt}
+use Rattle.std.specs.List.{list_all}
+use Rattle.std.proofs.lemmas.List.{length-drop, length_push}
 use Rattle.std.proofs.lemmas.Bool.{and_parts, not-true, true≢false}
 use Rattle.rec_id.specs.declared.item.Item.{Item}
 use Rattle.rec_id.specs.Identity.{Identity, has_id}
-use Rattle.view_config.specs.Shape.{Dimensions}
 use Rattle.lazy_msgs.specs.declared.limits.TheConstants.{PENDING_LIMIT}
 use Rattle.lazy_rules.specs.Flight.{Batch, flight_end, new_batch}
 use Rattle.lazy_rules.specs.Roles.{others_of, followers_of}
 use Rattle.lazy_rules.specs.SeqRules.{is_active, is_leader, is_following, with_item, with_bound}
-use Rattle.lazy_rules.specs.SeqState.{SeqState, first_seq}
+use Rattle.lazy_rules.specs.SeqState.{SeqState}
 use Rattle.seq_node.specs.Kept.{IsKept, Starts, AllKnown}
 use Rattle.seq_node.proofs.Known.{length-marked, known_now, all_still, all_push, all_drop, all_marked, known_filter}
 use Rattle.seq_node.specs.Ahead.{ahead, IsAhead}

@@ -1,5 +1,5 @@
 -- What an answer does to a flight, and what a probe does to the reads.
-use Rattle.std.proofs.Common.{◌≡◌, ℕ, zero, suc, ◌+◌, ◌-◌, ◌<◌, ◌≤◌, List, [], ◌∷◌, ◌++◌, Bool, true, false, cond, eqb, length, drop, drop-cons, get_or, Some, inl, inr, sym, ap, subst, ◌∙◌, refl, arith}
+use Rattle.std.proofs.Common.{◌≡◌, ℕ, suc, ◌+◌, ◌<◌, List, [], ◌∷◌, ◌++◌, Bool, true, false, cond, eqb, length, drop, drop-cons, get_or, Some, inl, inr, sym, ap, subst, ◌∙◌, refl, arith}
 use Rattle.std.specs.Prelude.{flat_map, option_map, slice_get}
 use Rattle.binder.specs.declared.batch.Batch.{Batch as Outline}
 use Rattle.std.proofs.lemmas.Bool.{cases_Bool, cond_both}
@@ -7,14 +7,12 @@ use Rattle.binder.proofs.Chains.{SameSpans, same_place, same_order, same_passed}
 use Rattle.binder.specs.Binding.{Binding, outline, ordered_flight, placed_flight, ordered_progress, placed_progress, progress_of, probes_with}
 use Rattle.binder.specs.declared.batch.Progress.TheVariants.{Ignored, Waiting, Passed}
 use Rattle.lazy_msgs.specs.declared.msg.Msg.{Msg}
-use Rattle.lazy_msgs.specs.Step.{Row}
 use Rattle.lazy_rules.specs.Flight.{Batch, Probe, flight_end, has_all, has_later_probe, has_ordering, has_placing, is_placing_to, answered_by, now_ordering, passed, passing, place_noted, with_order, with_place, with_probe}
-use Rattle.lazy_rules.specs.Leading.{forces, order_sends, with_passed, passes}
-use Rattle.lazy_rules.specs.Rows.{sends_all, stays}
+use Rattle.lazy_rules.specs.Leading.{forces, order_sends}
+use Rattle.lazy_rules.specs.Rows.{stays}
 use Rattle.lazy_rules.specs.SeqRules.{seq_row, seq_took, waits, with_waiting}
 use Rattle.lazy_rules.specs.Door.{is_turned_away}
 use Rattle.lazy_rules.specs.SeqState.{SeqState}
-use Rattle.rec_id.specs.declared.item.Item.{Item}
 use Rattle.seq_node.specs.Ahead.{ahead, Goes, IsAhead}
 use Rattle.seq_node.specs.Kept.{Starts}
 use Rattle.seq_node.specs.Passing.{is_noted, picked, picks}

@@ -1,9 +1,9 @@
 -- Parts of the pending items, item by item.
-use Rattle.std.proofs.Common.{◌≡◌, ℕ, zero, suc, ◌+◌, ◌-◌, ◌<◌, ◌≤◌, List, [], ◌∷◌, ◌++◌, length, take, drop, map, Some, None, sym, ap, ◌∙◌, refl, arith}
+use Rattle.std.proofs.Common.{◌≡◌, ℕ, zero, suc, ◌+◌, ◌-◌, ◌<◌, ◌≤◌, List, [], ◌∷◌, ◌++◌, length, take, drop, Some, None, sym, ap, ◌∙◌, refl, arith}
 use Rattle.std.specs.Prelude.{slice_get, Option, option_map, unwrap_or}
 use Rattle.binder.specs.Sound.{IsChain, IsFlight}
 use Rattle.seq_node.specs.Kept.{Starts}
-use Rattle.std.proofs.Common.{subst, Bool, true, false, ◌&&◌, cond, ltb, get_or, drop-cons, add-one, length-drop}
+use Rattle.std.proofs.Common.{subst, Bool, true, false, ◌&&◌, cond, ltb, get_or, drop-cons, length-drop}
 use Rattle.std.proofs.lemmas.Bool.{lt-ltb, le-ltb}
 use Rattle.std.proofs.lemmas.Option.{slice_get-get_or}
 use Rattle.lazy_rules.specs.declared.limits.TheConstants.{FLIGHT_LIMIT}

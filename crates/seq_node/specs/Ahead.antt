@@ -1,12 +1,11 @@
 use Rattle.std.specs.Prelude.{ℕ, ◌≡◌, ◌+◌, ◌-◌, ◌^◌, ◌<◌, ◌≤◌, List, [], ◌∷◌, ◌++◌, length, drop, map, if◌then◌else◌}
-use Rattle.rec_id.specs.declared.event.Event.{Event}
 use Rattle.lazy_msgs.specs.declared.msg.Msg.{Msg}
 use Rattle.lazy_msgs.specs.declared.msg.Msg.TheVariants.{TailReady}
 use Rattle.lazy_msgs.specs.Step.{Row}
 use Rattle.lazy_rules.specs.Flight.{Batch, Probe, flight_end, is_finished}
 use Rattle.lazy_rules.specs.Leading.{leaves, finishing}
 use Rattle.lazy_rules.specs.Roles.{followers_of}
-use Rattle.lazy_rules.specs.Rows.{stays, followed}
+use Rattle.lazy_rules.specs.Rows.{stays}
 use Rattle.lazy_rules.specs.SeqState.{SeqState}
 use Rattle.seq_node.specs.Kept.{Starts}
 use Rattle.seq_node.specs.declared.lead.Lead.{Lead}

@@ -1,4 +1,3 @@
-use Rattle.std.specs.Prelude.{ℕ}
 use Rattle.lazy_rules.specs.SeqState.{SeqState}
 use Rattle.seq_node.specs.declared.node.SeqNode.TheInside.{Inside}
 use Rattle.seq_node.specs.Kept.{IsKept}

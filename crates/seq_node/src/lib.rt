@@ -26,6 +26,8 @@ mod roles;
 mod seal;
 mod stable;
 mod step;
+#[cfg(test)]
+mod tests;
 mod tick;
 
 pub use node::SeqNode;

@@ -1,4 +1,4 @@
-use Rattle.std.proofs.Common.{◌≡◌, ℕ, suc, ◌+◌, ◌-◌, min, List, [], ◌∷◌, ◌++◌, length, append_assoc, ap, ◌∙◌, sym, arith}
+use Rattle.std.proofs.Common.{◌≡◌, ℕ, ◌+◌, ◌-◌, List, [], ◌∷◌, ◌++◌, length, append_assoc, ap, ◌∙◌, sym, arith}
 use Rattle.std.proofs.lemmas.List.{length_push}
 use Rattle.binder.specs.Binding.{Binding}
 use Rattle.lazy_rules.specs.Flight.{Batch, flight_end, new_batch}
@@ -11,10 +11,13 @@ pub begin_all-requires : goal.begin_all-requires
 begin_all-requires t c =
     let flight : List Batch = c.args.binder.now.flight in
     let place = c.args.from + c.min-count.result in
-    let long : length c.begin.new.self.flight ≡ length flight + 1 = ap (λ (b : Binding). length b.flight) c.begin.ensures ∙ length_push flight (new_batch c.args.from c.min-count.result) in
-    (omega (arith, c.if-room-eq0.false, c.decreases), (
-      omega (arith, long, c.requires.room, c.if-room-eq0.false),
-      (ap (λ (b : Binding). flight_end place b.flight) c.begin.ensures ∙ end_push place flight c.args.from c.min-count.result, c.requires.within)))
+    let long : length c.begin.new.self.flight ≡ length flight + 1 = ap (λ (b : Binding). length b.flight) c.begin.ensures ∙ length_push flight (new_batch c.args.from c.min-count.result) in (
+      omega (arith, c.if-room-eq0.false, c.decreases),
+      (
+        omega (arith, long, c.requires.room, c.if-room-eq0.false),
+        (ap (λ (b : Binding). flight_end place b.flight) c.begin.ensures ∙ end_push place flight c.args.from c.min-count.result, c.requires.within),
+      ),
+    )
 
 pub returns : goal.returns
 returns t c =

@@ -1,5 +1,5 @@
-use Rattle.std.proofs.Common.{◌≡◌, ℕ, ◌++◌, ◌∷◌, [], List, length, append-nil, subst, ap, ◌∙◌, sym, Some, None, arith}
-use Rattle.std.specs.Prelude.{Option, option_map, IfOk}
+use Rattle.std.proofs.Common.{◌≡◌, ℕ, ◌++◌, ◌∷◌, List, length, append-nil, subst, ap, ◌∙◌, sym, Some, None, arith}
+use Rattle.std.specs.Prelude.{IfOk}
 use Rattle.lazy_msgs.specs.declared.msg.Msg.{Msg}
 use Rattle.lazy_rules.specs.Flight.{Probe, ready, ready_probes, waiting_probes}
 use Rattle.binder.specs.Binding.{Binding, after_ready, probe_of}

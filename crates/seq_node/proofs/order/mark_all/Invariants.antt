@@ -1,4 +1,4 @@
-use Rattle.std.proofs.Common.{◌≡◌, ℕ, drop, length, true}
+use Rattle.std.proofs.Common.{◌≡◌, drop, length, true}
 use Rattle.std.specs.Prelude.{nat_lt}
 use Rattle.std.specs.List.{list_all}
 use Rattle.lazy_rules.specs.Windows.{marked_all}

@@ -1,7 +1,6 @@
-use Rattle.std.proofs.Common.{◌≡◌, ◌<◌, ◌≤◌, ◌+◌, ◌++◌, ◌∷◌, [], List, ℕ, get_or, length, drop, ap, ◌∙◌, sym, arith}
+use Rattle.std.proofs.Common.{◌≡◌, ◌<◌, ◌≤◌, ◌+◌, List, ℕ, get_or, length, drop, ap, ◌∙◌, arith}
 use Rattle.std.specs.Prelude.{flat_map}
 use Rattle.std.proofs.lemmas.List.{drop_all}
-use Rattle.lazy_msgs.specs.declared.msg.Msg.{Msg}
 use Rattle.lazy_msgs.specs.declared.msg.Msg.TheVariants.{Stable}
 use Rattle.lazy_rules.specs.Rows.{to_each}
 use Rattle.seq_node.proofs.Sends.{moved, ended, flat_next}

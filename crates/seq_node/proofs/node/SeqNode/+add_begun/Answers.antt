@@ -1,11 +1,11 @@
-use Rattle.std.proofs.Common.{◌≡◌, ℕ, suc, ◌+◌, ◌-◌, min, List, [], ◌∷◌, ◌++◌, append_assoc, append-nil, ap, ◌∙◌, sym, arith}
+use Rattle.std.proofs.Common.{◌≡◌, ℕ, ◌+◌, ◌-◌, List, ◌∷◌, ◌++◌, append_assoc, ap, ◌∙◌, sym, arith}
 use Rattle.std.specs.Prelude.{flat_map}
 use Rattle.lazy_msgs.specs.declared.msg.Msg.{Msg}
 use Rattle.lazy_rules.specs.Flight.{Batch, new_batch}
 use Rattle.lazy_rules.specs.Leading.{place_sends}
 use Rattle.lazy_rules.specs.SeqState.{SeqState}
 use Rattle.seq_node.specs.Beginning.{begun, next_count, pending_end}
-use Rattle.seq_node.proofs.Beginning.{begun_next, begun_none, begun_no_room}
+use Rattle.seq_node.proofs.Beginning.{begun_next}
 use Rattle.seq_node.proofs.Going.{ok_then}
 use Rattle.seq_node.proofs.node.SeqNode.+add_begun.Goals as goal
 

@@ -1,4 +1,4 @@
-use Rattle.std.proofs.Common.{◌≡◌, ◌-◌, suc, ap, ◌∙◌, sym, true, arith}
+use Rattle.std.proofs.Common.{◌≡◌, ◌-◌, ap, ◌∙◌, sym, true, arith}
 use Rattle.lazy_rules.specs.Flight.{flight_end, waits_above}
 use Rattle.lazy_rules.specs.Leading.{begins, forcing}
 use Rattle.lazy_rules.specs.Rows.{followed}

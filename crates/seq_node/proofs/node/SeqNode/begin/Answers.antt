@@ -4,7 +4,6 @@ use Rattle.lazy_rules.specs.Flight.{flight_end}
 use Rattle.lazy_rules.specs.SeqRules.{is_leader}
 use Rattle.lazy_rules.specs.SeqState.{SeqState}
 use Rattle.seq_node.specs.Beginning.{begun, pending_end}
-use Rattle.seq_node.specs.Kept.{IsKept}
 use Rattle.seq_node.specs.NodeView.{seq_of}
 use Rattle.seq_node.proofs.Beginning.{kept_begun}
 use Rattle.seq_node.proofs.node.SeqNode.begin.Goals as goal

@@ -1,4 +1,4 @@
-use Rattle.std.proofs.Common.{◌≡◌, ℕ, ◌+◌, ◌++◌, ◌<◌, ◌≤◌, List, length, min, ap, ◌∙◌, sym, subst, arith}
+use Rattle.std.proofs.Common.{◌≡◌, ◌≤◌, length, min, sym, subst, arith}
 use Rattle.binder.specs.Binding.{Binding}
 use Rattle.lazy_msgs.specs.declared.limits.TheConstants.{BATCH_LIMIT}
 use Rattle.lazy_rules.specs.Leading.{begins, behind}

@@ -1,4 +1,4 @@
-use Rattle.std.proofs.Common.{◌≡◌, ℕ, [], List, subst, refl}
+use Rattle.std.proofs.Common.{ℕ, [], List, subst, refl}
 use Rattle.lazy_msgs.specs.declared.msg.Msg.{Msg}
 use Rattle.lazy_msgs.specs.declared.refused.StepRefused.TheVariants.{Over}
 use Rattle.lazy_msgs.specs.Step.{Row, StepsTo}

@@ -1,4 +1,4 @@
-use Rattle.std.proofs.Common.{◌≡◌, ◌+◌, ◌++◌, drop}
+use Rattle.std.proofs.Common.{◌≡◌, ◌++◌, drop}
 use Rattle.lazy_rules.specs.Ids.{ids_of}
 use Rattle.seq_node.specs.Batches.{items_at}
 use Rattle.seq_node.proofs.node.SeqNode.ids_in.Given as goal

@@ -1,4 +1,4 @@
-use Rattle.std.proofs.Common.{◌≡◌, ◌+◌, ◌-◌, ◌++◌, ◌∷◌, [], List, ℕ, drop, ap, ◌∙◌, arith}
+use Rattle.std.proofs.Common.{◌≡◌, ◌+◌, ◌-◌, ◌++◌, ◌∷◌, [], List, drop, ap, ◌∙◌}
 use Rattle.rec_id.specs.declared.item.Item.{Item}
 use Rattle.lazy_rules.specs.Items.{bytes_for, items_for}
 use Rattle.lazy_rules.specs.SeqState.{SeqState}

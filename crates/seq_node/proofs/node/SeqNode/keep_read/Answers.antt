@@ -1,9 +1,8 @@
-use Rattle.std.proofs.Common.{◌≡◌, ℕ, false, Bool, cond, List, ap, sym, ◌∙◌, arith}
+use Rattle.std.proofs.Common.{ℕ, Bool, cond, List, ap, ◌∙◌}
 use Rattle.binder.specs.Binding.{Binding, probes_with}
-use Rattle.lazy_rules.specs.Flight.{Probe, has_later_probe, with_probe}
+use Rattle.lazy_rules.specs.Flight.{Probe, with_probe}
 use Rattle.lazy_rules.specs.SeqState.{SeqState}
 use Rattle.seq_node.specs.NodeView.{seq_of}
-use Rattle.seq_node.specs.Beginning.{pending_end}
 use Rattle.seq_node.proofs.Beginning.{kept_read}
 use Rattle.seq_node.proofs.node.SeqNode.keep_read.Goals as goal
 

@@ -1,4 +1,4 @@
-use Rattle.std.proofs.Common.{◌≡◌, ℕ, [], List, Bool, true, cond, not, ap, ◌∙◌, sym, subst}
+use Rattle.std.proofs.Common.{◌≡◌, ℕ, List, Bool, true, cond, not, ap, ◌∙◌, sym, subst}
 use Rattle.binder.specs.Binding.{Binding, ordered_flight}
 use Rattle.lazy_msgs.specs.declared.msg.Msg.{Msg}
 use Rattle.lazy_msgs.specs.declared.refused.StepRefused.TheVariants.{Over}

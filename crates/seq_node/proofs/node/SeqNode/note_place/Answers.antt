@@ -1,12 +1,11 @@
-use Rattle.std.proofs.Common.{◌≡◌, ℕ, [], ◌++◌, List, Bool, true, cond, not, length, ap, ◌∙◌, sym, subst}
+use Rattle.std.proofs.Common.{◌≡◌, ℕ, ◌++◌, List, Bool, true, cond, not, length, ap, ◌∙◌, sym, subst}
 use Rattle.std.specs.Prelude.{flat_map}
 use Rattle.binder.specs.Binding.{Binding, placed_flight}
-use Rattle.binder.proofs.Chains.{SameSpans}
 use Rattle.lazy_msgs.specs.declared.msg.Msg.{Msg}
 use Rattle.lazy_msgs.specs.declared.refused.StepRefused.TheVariants.{Over}
 use Rattle.lazy_msgs.specs.Step.{Row, StepsTo}
 use Rattle.lazy_rules.specs.Flight.{Batch, has_placing, passed, passing, with_place}
-use Rattle.lazy_rules.specs.Leading.{finishes, order_sends, passes}
+use Rattle.lazy_rules.specs.Leading.{finishes, order_sends}
 use Rattle.lazy_rules.specs.Rows.{followed, sends_all, stays}
 use Rattle.lazy_rules.specs.SeqRules.{notes_place}
 use Rattle.lazy_rules.specs.SeqState.{SeqState}

@@ -1,6 +1,3 @@
-use Rattle.std.proofs.Common.{sym, subst}
-use Rattle.lazy_msgs.specs.Step.{Row, StepsTo}
-use Rattle.lazy_rules.specs.SeqState.{SeqState}
 use Rattle.seq_node.proofs.Sends.{starts_is}
 use Rattle.seq_node.proofs.node.SeqNode.start.Goals as goal
 
