@@ -21,6 +21,8 @@ mod seat;
 mod sending;
 mod stable;
 mod step;
+#[cfg(test)]
+mod tests;
 mod trim;
 
 pub use node::ShardNode;
