@@ -1,5 +1,6 @@
-//! Histories of one append, and what is told of them. `law_cases` has many more as theorems, which
-//! bind the check by its contract.
+//! Histories of one append, and what is told of them, and those of `law_cases` that the law forbids.
+
+mod broken;
 
 use crate::verdict::{Verdict, check};
 use plain_lists::Sequence;
