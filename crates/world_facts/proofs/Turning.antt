@@ -1,7 +1,9 @@
 -- Each event that isn't refused is one turn of one node, unless it delivers a message to a number that no node
 -- has.
-use Rattle.std.proofs.Common.{◌≡◌, ◌⊎◌, ℕ, ◌+◌, ◌*◌, ◌<◌, List, length, Option, Some, None, inl, inr, refl, sym, ap, ◌∙◌, arith}
-use Rattle.std.specs.Prelude.{◌-◌, if◌then◌else◌, slice_get, slice_set}
+use Rattle.std.proofs.Common.{◌≡◌, ◌⊎◌, ℕ, ◌+◌, ◌*◌, ◌<◌, ◌≤◌, List, length, Bool, true, false, Option, Some, None, inl, inr, refl, sym, ap, ◌∙◌, arith}
+use Rattle.std.specs.Prelude.{◌-◌, nat_lt, if◌then◌else◌, slice_get, slice_set}
+use Rattle.std.proofs.lemmas.Bool.{ltb-false}
+use Rattle.rec_id.specs.declared.limits.TheConstants.{READ_LIMIT}
 use Rattle.std.specs.Option.{is_none}
 use Rattle.std.proofs.lemmas.Option.{slice_get_within}
 use Rattle.list_facts.specs.Lists.{In}
@@ -24,7 +26,7 @@ use Rattle.lazy_msgs.specs.declared.refused.BeginRefused.{BeginRefused}
 use Rattle.lazy_msgs.specs.declared.refused.PostRefused.{PostRefused}
 use Rattle.lazy_msgs.specs.declared.refused.SuspectRefused.{SuspectRefused}
 use Rattle.lazy_msgs.specs.declared.refused.TrimRefused.{TrimRefused}
-use Rattle.lazy_msgs.specs.declared.refused.EventRefused.TheVariants.{NoNode, NoMessage, IsClaim, Crashed, NoTrim, Post as PostRefusedSo, Begin as BeginRefusedSo, Suspect as SuspectRefusedSo, Trim as TrimRefusedSo}
+use Rattle.lazy_msgs.specs.declared.refused.EventRefused.TheVariants.{NoNode, NoMessage, IsClaim, NotClaim, Crashed, NoTrim, Backward, Wide, NotYet, Post as PostRefusedSo, Begin as BeginRefusedSo, Suspect as SuspectRefusedSo, Trim as TrimRefusedSo}
 use Rattle.lazy_msgs.specs.Step.{Row}
 use Rattle.lazy_rules.specs.ClientNode.{ClientNode, Half, Appends, Reads, Both, half_of, half_took, in_appends, in_reads}
 use Rattle.lazy_rules.specs.ClientRules.{post_refusal, invokes, client_took}
@@ -38,7 +40,7 @@ use Rattle.lazy_rules.specs.SeqState.{SeqState}
 use Rattle.lazy_rules.specs.ShardRules.{shard_took}
 use Rattle.lazy_rules.specs.ShardState.{ShardState}
 use Rattle.lazy_rules.specs.WorldState.{WorldState, shard_place}
-use Rattle.lazy_rules.specs.WorldRules.{after, refusal, stepped, client_did, reader_did, client_node_did, control_did, halves, client_node, posted, asked, trimmed, peeked, delivered, received, client_received, appends_received, reads_received, both_received, seq_did, shard_did, seq_received, shard_received, given, client_given, seq_given, shard_given, ids_at, claimed, message_at, post_refused_at, posting_refused, ask_refused_at, asking_refused, trim_refused_at, trim_refused_in, trimming_refused, peek_refused_at, peek_refused, delivery_refused, delivery_to_refused, step_refused_at, suspect_refused_at, suspecting_refused}
+use Rattle.lazy_rules.specs.WorldRules.{after, refusal, stepped, client_did, reader_did, client_node_did, control_did, halves, client_node, posted, asked, trimmed, peeked, delivered, received, client_received, appends_received, reads_received, both_received, seq_did, shard_did, seq_received, shard_received, given, client_given, seq_given, shard_given, ids_at, claimed, message_at, post_refused_at, posting_refused, ask_refused_at, asking_refused, trim_refused_at, trim_refused_in, trimming_refused, peek_refused_at, peek_refused, claim_refused, range_refused, delivery_refused, delivery_to_refused, step_refused_at, suspect_refused_at, suspecting_refused}
 use Rattle.world_facts.specs.Forms.{HasForm}
 use Rattle.world_facts.specs.Turns.{ClientTurn, ControlTurn, SeqTurn, ShardTurn, CrashTurn, IsNext, IsMail, IsLost, Meets}
 use Rattle.world_facts.proofs.Lists.{set_same, numbered_in, place_below, not_then}
@@ -72,6 +74,23 @@ mail w k to _ h = tt
 peek_past : (w : WorldState) (c k from to : ℕ) (o : Option ClientState) → peek_refused_at w c k from to o ≡ None → peek_refused w c k from to (message_at w k) ≡ None
 peek_past w c k from to None free = let wrong : Some (NoNode c) ≡ None = free in cc
 peek_past w c k from to (Some s) free = free
+
+-- a peek that isn't refused is of a claim, below what that claimed
+range_free : (from to stable : ℕ) → range_refused from to stable ≡ None → (from ≤ to) × (to ≤ stable)
+range_free from to stable free = by (nat_lt to from) refl (nat_lt READ_LIMIT (to - from)) (nat_lt stable to) refl free
+  where
+    by : (a : Bool) → nat_lt to from ≡ a → (b c : Bool) → nat_lt stable to ≡ c
+        → (if a then Some Backward else (if b then Some Wide else (if c then Some (NotYet stable) else None))) ≡ None → (from ≤ to) × (to ≤ stable)
+    by true e b c f h = let wrong : Some Backward ≡ None = h in cc
+    by false e true c f h = let wrong : Some Wide ≡ None = h in cc
+    by false e false true f h = let wrong : Some (NotYet stable) ≡ None = h in cc
+    by false e false false f h = (ltb-false to from e, ltb-false stable to f)
+
+claim_free : (w : WorldState) (c k from to : ℕ) (msg : Msg) → claim_refused w c k from to msg ≡ None → (stable : ℕ) × (msg ≡ Claim stable) × (from ≤ to) × (to ≤ stable)
+claim_free w c k from to (Claim stable) free =
+    let range = range_free from to stable (not_then (has_node w.crashed c) (Crashed c) (range_refused from to stable) free) in
+    (stable, refl, range.0, range.1)
+claim_free w c k from to _ free = let wrong : Some (NotClaim k) ≡ None = free in cc
 
 module _ (shape : Dimensions) (Asked : Input → Type 0) (w : WorldState) (form : HasForm shape w) where
   abbrev Next : WorldState → Type 0
@@ -147,14 +166,27 @@ module _ (shape : Dimensions) (Asked : Input → Type 0) (w : WorldState) (form 
             ∙ ap (λ (row : Row ReaderState). client_node_did w c 0 (in_reads (node c client.0 r client.1 there) row)) (trim_row r floor two allowed.1);
       }
 
-  peek : (c k from to : ℕ) (o : Option ClientState) → slice_get w.clients c ≡ o → (found : Option Envelope) → peek_refused_at w c k from to o ≡ None → peek_refused w c k from to found ≡ None → Next (peeked w c from to found)
-  peek c k from to None here found free past = let wrong : Some (NoNode c) ≡ None = free in cc
-  peek c k from to (Some s) here None free past = let wrong : Some (NoMessage k) ≡ None = past in cc
-  peek c k from to (Some s) here (Some e) free past =
+  peek : (c k from to : ℕ) (o : Option ClientState) → slice_get w.clients c ≡ o → (found : Option Envelope) → message_at w k ≡ found → peek_refused_at w c k from to o ≡ None → peek_refused w c k from to found ≡ None → Next (peeked w c from to found)
+  peek c k from to None here found there free past = let wrong : Some (NoNode c) ≡ None = free in cc
+  peek c k from to (Some s) here None there free past = let wrong : Some (NoMessage k) ≡ None = past in cc
+  peek c k from to (Some s) here (Some e) there free past =
       let reader = reader_there c s here in
+      let claim = claim_free w c k from to e.msg past in
       record {
         turn = ClientTurn c (node c s reader.0 here reader.1) (PeekInput (claimed e.msg) e.time (e.from - FIRST_SHARD) from (ids_at w from to (node_of w.shape e.from)));
-        is = (node_here c s reader.0 here reader.1, tt);
+        is = (
+          node_here c s reader.0 here reader.1,
+          record {
+            envelope = e;
+            sent = numbered_in w.sent k e there;
+            stable = claim.0;
+            claims = claim.1;
+            to = to;
+            forward = claim.2;
+            within = claim.3;
+            is = refl;
+          },
+        );
         did = ap (client_given w c (PeekInput (claimed e.msg) e.time (e.from - FIRST_SHARD) from (ids_at w from to (node_of w.shape e.from)))) (node_here c s reader.0 here reader.1);
       }
 
@@ -303,7 +335,7 @@ module _ (shape : Dimensions) (Asked : Input → Type 0) (w : WorldState) (form 
   turning (Post c bytes) may free = inl (post c bytes (slice_get w.clients c) refl free may)
   turning (Ask c wanted) may free = inl (ask c wanted (slice_get w.readers c) refl free may)
   turning (Trim c floor) may free = inl (trim c floor (slice_get w.readers c) refl free may)
-  turning (Peek c k from to) may free = inl (peek c k from to (slice_get w.clients c) refl (message_at w k) free (peek_past w c k from to (slice_get w.clients c) free))
+  turning (Peek c k from to) may free = inl (peek c k from to (slice_get w.clients c) refl (message_at w k) refl free (peek_past w c k from to (slice_get w.clients c) free))
   turning (Deliver k) may free = deliver k (message_at w k) refl free
   turning (Tick number) may free = inl (give_tick number (node_of w.shape number) refl free)
   turning (Grace number) may free = inl (give_grace number (node_of w.shape number) refl free)

@@ -1,10 +1,11 @@
-use Rattle.std.specs.Prelude.{◌≡◌, ◌<◌, ◌⊎◌, ℕ, Some, None, slice_get}
+use Rattle.std.specs.Prelude.{◌≡◌, ◌<◌, ◌≤◌, ◌⊎◌, ℕ, List, Some, None, slice_get}
 use Rattle.list_facts.specs.Lists.{In}
+use Rattle.rec_id.specs.Identity.{Identity}
 use Rattle.view_config.specs.Nodes.{seq_id, shard_id}
 use Rattle.view_config.specs.Shape.{node_of}
 use Rattle.view_config.specs.declared.nodes.TheConstants.{CONTROLLER}
 use Rattle.lazy_msgs.specs.declared.input.Input.{Input}
-use Rattle.lazy_msgs.specs.declared.input.Input.TheVariants.{Take, Post, Ask, Trim, Suspect}
+use Rattle.lazy_msgs.specs.declared.input.Input.TheVariants.{Take, Post, Ask, Trim, Suspect, Peek}
 use Rattle.lazy_msgs.specs.declared.input.WorldEvent.{WorldEvent}
 use Rattle.lazy_msgs.specs.declared.input.WorldEvent.TheVariants.{Post as PostEvent, Ask as AskEvent, Trim as TrimEvent, Suspect as SuspectEvent}
 use Rattle.lazy_msgs.specs.declared.msg.Envelope.{Envelope}
@@ -17,7 +18,7 @@ use Rattle.lazy_rules.specs.SeqState.{SeqState}
 use Rattle.lazy_rules.specs.ShardRules.{shard_step}
 use Rattle.lazy_rules.specs.ShardState.{ShardState}
 use Rattle.lazy_rules.specs.WorldState.{WorldState, shard_place}
-use Rattle.lazy_rules.specs.WorldRules.{client_node, client_node_did, control_did, seq_did, shard_did, crashes}
+use Rattle.lazy_rules.specs.WorldRules.{client_node, client_node_did, control_did, seq_did, shard_did, crashes, ids_at}
 
 -- What one event comes to: one input at one node, or a crash.
 
@@ -42,13 +43,26 @@ turned w (SeqTurn i s input) = seq_did w (seq_id i) i (time_in input) (seq_step 
 turned w (ShardTurn i j s input) = shard_did w (shard_id i j) (shard_place w.shape i j) (time_in input) (shard_step s input)
 turned w (CrashTurn node) = crashes w node
 
--- what a node takes was sent to it, and what it is asked from outside meets this
+-- the order from here on, as the sender of some Claim has it below what that claimed
+pub record IsPeeked (w : WorldState) (from : ℕ) (ids : List Identity) : Type 0 where
+  pub envelope : Envelope
+  pub sent : In envelope w.sent
+  pub stable : ℕ
+  pub claims : envelope.msg ≡ Claim stable
+  pub to : ℕ
+  pub forward : from ≤ to
+  pub within : to ≤ stable
+  pub is : ids ≡ ids_at w from to (node_of w.shape envelope.from)
+
+-- what a node takes was sent to it, what it is asked from outside meets this, and what it is shown is what some claim's
+-- sender has
 abbrev pub IsGiven : (Input → Type 0) → WorldState → ℕ → Input → Type 0
 IsGiven Asked w node (Take envelope) = (envelope.to ≡ node) × In envelope w.sent
 IsGiven Asked w node (Post bytes) = Asked (Post bytes)
 IsGiven Asked w node (Ask ask) = Asked (Ask ask)
 IsGiven Asked w node (Trim floor) = Asked (Trim floor)
 IsGiven Asked w node (Suspect other) = Asked (Suspect other)
+IsGiven Asked w node (Peek stable time replica from ids) = IsPeeked w from ids
 IsGiven Asked w node _ = Unit {0}
 
 -- the node has this state, and is given this input

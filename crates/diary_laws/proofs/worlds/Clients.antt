@@ -1,5 +1,5 @@
 -- The events that are steps of a client.
-use Rattle.std.proofs.Common.{◌≡◌, ℕ, ◌+◌, List, [], ◌∷◌, length, Bool, false, Option, Some, None, refl, sym, ap, ◌∙◌, subst}
+use Rattle.std.proofs.Common.{◌≡◌, ℕ, ◌+◌, List, [], ◌∷◌, length, Bool, false, Option, Some, None, refl, sym, ap, ◌∙◌, subst, arith}
 use Rattle.std.specs.Prelude.{◌-◌, if◌then◌else◌, slice_get, slice_set}
 use Rattle.std.specs.Option.{is_none}
 use Rattle.rec_id.specs.Identity.{Identity}
@@ -129,7 +129,8 @@ module _ (shape : Dimensions) (w : WorldState) (form : HasForm shape w) (c : ℕ
       let end : ℕ = from + length ids in
       let seen : List Identity = ids_at w from end (node_of w.shape h.found.from) in
       let acts : ActsAs (sees n from seen) (PeekEvent c h.number from end) =
-      acts_turn (Peek (claimed h.found.msg) h.found.time (h.found.from - FIRST_SHARD) from seen) (PeekEvent c h.number from end) tt
+      acts_turn (Peek (claimed h.found.msg) h.found.time (h.found.from - FIRST_SHARD) from seen) (PeekEvent c h.number from end)
+      (record { envelope = h.found; sent = numbered_in w.sent h.number h.found h.there; stable = stable; claims = h.says; to = end; forward = omega arith; within = h.within; is = refl })
       (ap (peek_refused_at w c h.number from end) appends
       ∙ ap (peek_refused w c h.number from end) h.there
       ∙ ap (claim_refused w c h.number from end) h.says

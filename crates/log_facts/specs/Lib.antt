@@ -1,0 +1,14 @@
+pub mod Ghosts
+pub mod Parts
+pub mod Signs
+pub mod Past
+pub mod Finality
+pub mod Handed
+pub mod Says
+pub mod Said
+pub mod facts
+pub mod Agreed
+pub mod Growth
+pub mod Good
+pub mod LawfulLines
+pub mod Promises
