@@ -1,0 +1,13 @@
+pub mod Stepping
+pub mod Sending
+pub mod OpenAppends
+pub mod Finished
+pub mod Apart
+pub mod Tick
+pub mod ViewIs
+pub mod Noted
+pub mod AppendAck
+pub mod DataAck
+pub mod Rejected
+pub mod Post
+pub mod AllInputs

@@ -1,0 +1,16 @@
+pub mod Lists
+pub mod Handing
+pub mod Closing
+pub mod ClosingShards
+pub mod Beginning
+pub mod Noting
+pub mod Turning
+pub mod Taking
+pub mod Next
+pub mod Held
+pub mod Suspect
+pub mod Sealed
+pub mod Started
+pub mod Flushed
+pub mod Telling
+pub mod AllInputs

@@ -1,0 +1,14 @@
+pub mod Batches
+pub mod BatchItems
+pub mod Leading
+pub mod Flown
+pub mod Batching
+pub mod Led
+pub mod Begin
+pub mod Pass
+pub mod Force
+pub mod OrderedByAll
+pub mod Left
+pub mod Leave
+pub mod Finish
+pub mod Note
