@@ -28,8 +28,8 @@ spared_lines w = flat_map (spared_line w) (holders w)
 abbrev pub AreLawful : List Event → List HolderLine → Type 0
 AreLawful history lines = Each (λ held. Lawful history held.line) lines
 
--- a trail has the history of a world and the lines of its holders, which are lawful for it, and else what
--- it had before
+-- a trail has the history of a world and the lines of its holders, each of them lawful for it, and else what it had
+-- before
 pub record IsFilled (w : WorldState) (before after : Trail) : Type 0 where
   pub history : after.history ≡ w.history
   pub lines : after.lines ≡ spared_lines w

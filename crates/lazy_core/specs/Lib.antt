@@ -1,7 +1,14 @@
-pub mod AppendState
-pub mod Early
+pub mod NodeStep
+pub mod ClientParts
+pub mod EventRefusals
+pub mod NodeCall
+pub mod Standing
+pub mod States
+pub mod Turning
 pub mod Happens
 pub mod Ledger
 pub mod WorldView
+pub mod Peeking
 pub mod Reached
+pub mod LinesOf
 pub mod Filled

@@ -1,171 +1,106 @@
-//! What an event does to a world: one step of one node, or a refusal that changes nothing.
-//!
-//! A post and a delivery have their bodies here, in Erwin-m.
+//! What an event does: one step of one node, or a crash, or a refusal that changes nothing.
 
-ghost use Rattle.std.specs.Prelude.{◌≡◌, ◌+◌, ◌<◌, ◌≤◌, ◌^◌, length, Some};
-ghost use Rattle.view_config.specs.declared.edition.Mode.TheVariants.{M};
-ghost use Rattle.lazy_msgs.specs.declared.input.WorldEvent.TheVariants.{Post, Deliver};
-ghost use Rattle.lazy_msgs.specs.declared.msg.Msg.TheVariants.{Append, AppendAck};
-ghost use Rattle.lazy_rules.specs.WorldRules.{delivered, delivery_refused};
-ghost use Rattle.log_safety.specs.Built.{IsBuilt};
-ghost use Rattle.lazy_core.specs.Early.{IsSeqNode, IsEarly};
-ghost use Rattle.lazy_core.specs.Happens.{ClientTakesWithin, Happens, HappensWithin, PostsWithin, SeqTakesWithin, StepsWithin};
+ghost use Rattle.std.specs.Prelude.{◌≡◌, ◌≢◌, ◌+◌, ◌≤◌, ◌<◌, ◌^◌, length, true, false, Err};
+ghost use Rattle.lazy_msgs.specs.declared.refused.EventRefused.TheVariants.{Spent};
+ghost use Rattle.lazy_msgs.specs.declared.input.WorldEvent.TheVariants.{Crash};
+ghost use Rattle.lazy_core.specs.Happens.{Happens, Turns, TurnsWithin};
+ghost use Rattle.lazy_core.specs.Turning.{IsKnown, IsNoCrash, IsTurnIn};
 
 use crate::nodes::Nodes;
-use lazy_msgs::{Envelope, EventRefused, Msg, WorldEvent};
+use crate::turns::Turn;
+use lazy_msgs::{EventRefused, WorldEvent};
 use lazy_rules::MESSAGES_LIMIT;
-use rec_id::{Bytes, RecordId};
-use view_config::FIRST_SEQ;
+use view_config::CONTROLLER;
 
-/// For how many messages an event is tried at first, and how many times more at each further try.
+/// For how many messages a step is tried at first, and how many times more at each further try.
 const FIRST_ROOM: u32 = 64;
 
 const ROOM_GROWTH: u32 = 16;
 
+/// There was no room for what would have been sent.
+fn is_spent(outcome: &Result<(), EventRefused>) -> bool
+    ensures spent { result ≡ true → outcome.now ≡ Err Spent }
+    ensures unspent { result ≡ false → outcome.now ≢ Err Spent }
+{
+    match outcome {
+        Err(EventRefused::Spent) => true,
+        _ => false,
+    }
+}
+
 impl Nodes {
-    /// `bytes` are posted to a client of the shape, which isn't crashed.
-    fn post_to_client(&mut self, c: u32, bytes: &Bytes, room: u32) -> Result<(), EventRefused>
-        requires there { c < length self.old.clients }
-        requires mode { self.old.shape.mode ≡ M }
+    /// The turn, if it sends no more than so many messages; spent, if it would send more.
+    fn step_within(&mut self, turn: &Turn, room: u32) -> Result<(), EventRefused>
+        requires known { IsKnown self.old }
+        requires turn { IsTurnIn self.old turn.now }
         requires countable { self.old.events + 1 < 2 ^ 32 }
         requires room { length self.old.sent + room ≤ MESSAGES_LIMIT }
-        ensures { PostsWithin room c bytes.now self.old self.new result }
+        ensures { TurnsWithin room turn.now self.old self.new result }
     {
-        let bytes = bytes.clone()?;
-        let mut out = self.ledger.outbox(room)?;
-        let client = &mut self.clients[c as usize];
-        client.post(bytes, &mut out)?;
-        self.ledger.enter(c, 0, out);
-        Ok(())
-    }
-
-    /// An append is delivered to the sequencing replica that it is for.
-    fn deliver_to_seq(
-        &mut self,
-        envelope: &Envelope,
-        view: u32,
-        id: RecordId,
-        bytes: &Option<Bytes>,
-        room: u32,
-    ) -> Result<(), EventRefused>
-        requires due { IsSeqNode self.old.shape envelope.now.to }
-        requires past { envelope.now.time ≤ self.old.events }
-        requires countable { self.old.events + 1 < 2 ^ 32 }
-        requires room { length self.old.sent + room ≤ MESSAGES_LIMIT }
-        ensures { SeqTakesWithin room envelope.now (Append view id bytes.now) self.old self.new result }
-    {
-        let mut out = self.ledger.outbox(room)?;
-        let index = (envelope.to - FIRST_SEQ) as usize;
-        let seq = &mut self.seqs[index];
-        seq.append(envelope.from, view, id, bytes, &mut out)?;
-        self.ledger.enter(envelope.to, envelope.time, out);
-        Ok(())
-    }
-
-    /// An acknowledgement is delivered to the client that it is for.
-    fn deliver_to_client(
-        &mut self,
-        envelope: &Envelope,
-        view: u32,
-        id: RecordId,
-        room: u32,
-    ) -> Result<(), EventRefused>
-        requires due { envelope.now.to < length self.old.clients }
-        requires past { envelope.now.time ≤ self.old.events }
-        requires countable { self.old.events + 1 < 2 ^ 32 }
-        requires room { length self.old.sent + room ≤ MESSAGES_LIMIT }
-        ensures { ClientTakesWithin room envelope.now (AppendAck view id) self.old self.new result }
-    {
-        let mut out = self.ledger.outbox(room)?;
-        let client = &mut self.clients[envelope.to as usize];
-        client.append_ack(envelope.from, view, id, &mut out)?;
-        self.ledger.enter(envelope.to, envelope.time, out);
-        Ok(())
-    }
-
-    /// `bytes` are posted to client `c`.
-    fn post(&mut self, c: u32, bytes: &Bytes, room: u32) -> Result<(), EventRefused>
-        requires mode { self.old.shape.mode ≡ M }
-        requires countable { self.old.events + 1 < 2 ^ 32 }
-        requires room { length self.old.sent + room ≤ MESSAGES_LIMIT }
-        ensures { HappensWithin room (Post c bytes.now) self.old self.new result }
-    {
-        if c as usize >= self.clients.len() {
-            return Err(EventRefused::NoNode(c));
-        }
-        if self.crashed.contains(&c) {
-            return Err(EventRefused::Crashed(c));
-        }
-        self.post_to_client(c, bytes, room)
-    }
-
-    /// Message `k` is delivered to the node that it is for, unless that is crashed.
-    fn deliver_to_node(
-        &mut self,
-        k: u32,
-        envelope: &Envelope,
-        room: u32,
-    ) -> Result<(), EventRefused>
-        requires early { IsEarly self.old.shape self.old.events envelope.now }
-        requires countable { self.old.events + 1 < 2 ^ 32 }
-        requires room { length self.old.sent + room ≤ MESSAGES_LIMIT }
-        ensures { StepsWithin room (delivered self.old (Some envelope.now)) (delivery_refused self.old k (Some envelope.now)) self.old self.new result }
-    {
-        if self.crashed.contains(&envelope.to) {
-            return Err(EventRefused::Crashed(envelope.to));
-        }
-        match &envelope.msg {
-            Msg::Append { view, id, bytes } => self.deliver_to_seq(
-                envelope, *view, *id, bytes, room,
-            ),
-            Msg::AppendAck { view, id } => self.deliver_to_client(envelope, *view, *id, room),
-            _ => unreachable!(),
-        }
-    }
-
-    /// Message `k` is delivered.
-    fn deliver(&mut self, k: u32, room: u32) -> Result<(), EventRefused>
-        requires countable { self.old.events + 1 < 2 ^ 32 }
-        requires room { length self.old.sent + room ≤ MESSAGES_LIMIT }
-        ensures { HappensWithin room (Deliver k) self.old self.new result }
-    {
-        let Some(envelope) = self.ledger.message(k) else {
-            return Err(EventRefused::NoMessage(k));
+        let Some(place) = self.snapshot.place(turn.node) else {
+            unreachable!()
         };
-        let envelope = envelope.copy()?;
-        self.deliver_to_node(k, &envelope, room)
+        let mut out = self.ledger.outbox(room)?;
+        self.snapshot.call(place, &turn.input, &mut out)?;
+        self.ledger.enter(turn.node, turn.received, out);
+        Ok(())
     }
 
-    /// The event, if it sends no more than so many messages; spent, if it would send more.
-    fn event_within(&mut self, event: &WorldEvent, room: u32) -> Result<(), EventRefused>
-        requires built { IsBuilt self.old.shape event.now }
+    /// The turn. A step rarely sends many messages, so it is tried with little room first.
+    fn step(&mut self, turn: &Turn) -> Result<(), EventRefused>
+        requires known { IsKnown self.old }
+        requires turn { IsTurnIn self.old turn.now }
         requires countable { self.old.events + 1 < 2 ^ 32 }
-        requires room { length self.old.sent + room ≤ MESSAGES_LIMIT }
-        ensures { HappensWithin room event.now self.old self.new result }
+        ensures { Turns turn.now self.old self.new result }
     {
-        match event {
-            WorldEvent::Post(c, bytes) => self.post(*c, bytes, room),
-            WorldEvent::Deliver(k) => self.deliver(*k, room),
-            _ => unreachable!(),
+        let left = self.room();
+        let mut room = FIRST_ROOM;
+        while room < left {
+            let outcome = self.step_within(turn, room);
+            if !is_spent(&outcome) {
+                return outcome;
+            }
+            room *= ROOM_GROWTH;
         }
+        self.step_within(turn, left)
     }
 
-    /// One event. It is refused in the order of [`EventRefused`], and then nothing is changed.
-    ///
-    /// An event rarely sends many messages, so it is tried with little room first.
-    pub(crate) fn event(&mut self, event: &WorldEvent) -> Result<(), EventRefused>
-        requires built { IsBuilt self.old.shape event.now }
+    /// A node crashes. The controller doesn't.
+    fn crash(&mut self, node: u32) -> Result<(), EventRefused>
+        requires known { IsKnown self.old }
+        requires countable { self.old.events + 1 < 2 ^ 32 }
+        ensures { Happens (Crash node) self.old self.new result }
+    {
+        if node == CONTROLLER {
+            return Err(EventRefused::NoNode(node));
+        }
+        self.check_node(node)?;
+        let out = self.ledger.outbox(0)?;
+        self.snapshot.crash(node)?;
+        self.ledger.enter(node, 0, out);
+        Ok(())
+    }
+
+    /// An event that isn't a crash.
+    fn turn(&mut self, event: &WorldEvent) -> Result<(), EventRefused>
+        requires known { IsKnown self.old }
+        requires no_crash { IsNoCrash event.now }
         requires countable { self.old.events + 1 < 2 ^ 32 }
         ensures { Happens event.now self.old self.new result }
     {
-        let left = MESSAGES_LIMIT - self.sent();
-        let mut room = FIRST_ROOM;
-        while room < left {
-            match self.event_within(event, room) {
-                Err(EventRefused::Spent) => room *= ROOM_GROWTH,
-                outcome => return outcome,
-            }
+        let turn = self.turn_of(event)?;
+        self.step(&turn)
+    }
+
+    /// One event. It is refused in the order of [`EventRefused`], and then nothing is changed.
+    pub(crate) fn event(&mut self, event: &WorldEvent) -> Result<(), EventRefused>
+        requires known { IsKnown self.old }
+        requires countable { self.old.events + 1 < 2 ^ 32 }
+        ensures { Happens event.now self.old self.new result }
+    {
+        match event {
+            WorldEvent::Crash(node) => self.crash(*node),
+            _ => self.turn(event),
         }
-        self.event_within(event, left)
     }
 }

@@ -1,17 +1,14 @@
-//! The nodes of a log, every message ever sent, and what the clients did and were told.
-//!
-//! `event.rt` has what an event does to them; `world.rt` says which of them are worlds.
+//! All nodes of a log, every message ever sent, and what the clients did and were told. Which of these are worlds
+//! is said in `world.rt`.
 
-ghost use Rattle.std.specs.Prelude.{◌≡◌, ◌+◌, ◌≤◌, length, map, IfOk, option_copied};
-ghost use Rattle.std.specs.List.{range_with_len};
-ghost use Rattle.view_config.specs.Shape.{IsShape};
-ghost use Rattle.lazy_rules.specs.ClientState.{first_client};
-ghost use Rattle.lazy_rules.specs.SeqState.{first_seq};
-ghost use Rattle.lazy_rules.specs.WorldState.{first_world};
+ghost use Rattle.std.specs.Prelude.{◌≡◌, ◌-◌, ◌≤◌, ◌+◌, length, IfOk, option_copied};
 ghost use Rattle.lazy_rules.specs.WorldRules.{message_at};
+ghost use Rattle.lazy_rules.specs.WorldState.{WorldState, first_world};
+ghost use Rattle.lazy_core.specs.LinesOf.{bare};
+ghost use Rattle.lazy_core.specs.Standing.{world_of_standing};
 
 use crate::ledger::Ledger;
-use crate::{AppendClient, SeqNode};
+use crate::snapshot::Snapshot;
 use lazy_msgs::Envelope;
 use lazy_rules::MESSAGES_LIMIT;
 use rec_id::Event;
@@ -22,47 +19,19 @@ use view_config::Shape;
 /// The nodes of a shape and all that happened among them.
 #[derive(Drop)]
 pub(crate) struct Nodes {
-    pub(crate) shape: Shape,
-    pub(crate) clients: Vec<AppendClient>,
-    pub(crate) seqs: Vec<SeqNode>,
-    pub(crate) crashed: Vec<u32>,
+    pub(crate) snapshot: Snapshot,
     pub(crate) ledger: Ledger,
 }
 
 impl Model for Nodes {
     ghost use Rattle.lazy_rules.specs.WorldState.{WorldState};
+    ghost use Rattle.lazy_core.specs.WorldView.{IsKept, world_of};
 
     ghost Value = { WorldState };
 
-    ghost use Rattle.lazy_core.specs.WorldView.{world_of, IsKept};
-
     ghost view = { world_of };
 
-    ghost invariant = { IsKept };
-}
-
-#[tactic(auto, using(view_config::proofs::Ranges::first_more))]
-fn first_clients(alloc: Global, shape: &Shape) -> Result<Vec<AppendClient>, AllocError>
-    ensures made { IfOk result (λ made. made.items ≡ map (first_client shape.now) (range_with_len 0 shape.now.clients)) }
-    ensures valid { IsShape shape.now }
-{
-    let mut made = Vec::with_capacity(alloc, shape.clients as usize)?;
-    for client in 0..shape.clients {
-        made.push(AppendClient::new(alloc, shape, client)?)?;
-    }
-    Ok(made)
-}
-
-#[tactic(auto, using(view_config::proofs::Ranges::first_more))]
-fn first_seqs(alloc: Global, shape: &Shape) -> Result<Vec<SeqNode>, AllocError>
-    ensures { IfOk result (λ made. made.items ≡ map (first_seq shape.now) (range_with_len 0 (shape.now.seq + shape.now.spares))) }
-{
-    let count = shape.seq + shape.spares;
-    let mut made = Vec::with_capacity(alloc, count as usize)?;
-    for index in 0..count {
-        made.push(SeqNode::new(alloc, shape, index)?)?;
-    }
-    Ok(made)
+    ghost invariant = { λ a. IsKept (world_of a) };
 }
 
 impl Nodes {
@@ -71,18 +40,21 @@ impl Nodes {
         ensures { IfOk result (λ world. world ≡ first_world shape.now) }
     {
         Ok(Nodes {
-            shape: *shape,
-            clients: first_clients(alloc, shape)?,
-            seqs: first_seqs(alloc, shape)?,
-            crashed: Vec::new(alloc),
+            snapshot: Snapshot::first(alloc, shape)?,
             ledger: Ledger::new(alloc)?,
         })
+    }
+
+    pub(crate) fn snapshot(&self) -> &Snapshot
+        ensures { world_of_standing result.now ≡ bare self.now }
+    {
+        &self.snapshot
     }
 
     pub(crate) fn shape(&self) -> &Shape
         ensures { result.now ≡ self.now.shape }
     {
-        &self.shape
+        &self.snapshot.shape
     }
 
     /// What the clients did and were told, in order.
@@ -112,5 +84,12 @@ impl Nodes {
         ensures { option_copied result ≡ message_at self.now k }
     {
         self.ledger.message(k)
+    }
+
+    /// How many messages may still be sent.
+    pub(crate) fn room(&self) -> u32
+        ensures { length self.now.sent + result ≡ MESSAGES_LIMIT }
+    {
+        MESSAGES_LIMIT - self.sent()
     }
 }

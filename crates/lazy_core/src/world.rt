@@ -1,24 +1,18 @@
-//! A world: all nodes of a log, every message ever sent, and what the clients did and were told, as
-//! some list of events led to it. In every world the line of each holder is lawful for what the clients
-//! did and were told.
-//!
-//! `nodes.rt` has what a world is made of, `event.rt` what an event does to it, `line.rt` who holds
-//! the log.
+//! A world: all nodes of a log, every message ever sent, and what the clients did and were told, as some list of
+//! events led to it.
 
-ghost use Rattle.std.specs.Prelude.{◌≡◌, ◌+◌, ◌<◌, ◌≤◌, ◌^◌, ℕ, Ok, Err, true, length, IfOk, option_copied};
-ghost use Rattle.rec_id.specs.Lawful.{Lawful};
+ghost use Rattle.std.specs.Prelude.{◌≡◌, ◌+◌, ◌<◌, ◌≤◌, ◌^◌, length, IfOk, option_copied};
 ghost use Rattle.lazy_rules.specs.Holders.{holders};
-ghost use Rattle.lazy_rules.specs.Lines.{line_told};
-ghost use Rattle.lazy_rules.specs.Rows.{has_node};
-ghost use Rattle.lazy_rules.specs.WorldState.{first_world};
 ghost use Rattle.lazy_rules.specs.WorldRules.{message_at};
-ghost use Rattle.log_safety.specs.Built.{IsBuilt};
+ghost use Rattle.lazy_rules.specs.WorldState.{first_world};
 ghost use Rattle.lazy_core.specs.Happens.{Happens};
+ghost use Rattle.lazy_core.specs.LinesOf.{IsLawfulLine, TellsLine, bare};
 ghost use Rattle.lazy_core.specs.Reached.{Appends, IsReached};
-ghost use Rattle.lazy_core.specs.declared.line.LineError.{LineError};
+ghost use Rattle.lazy_core.specs.Standing.{world_of_standing};
 
-use crate::LineError;
+use crate::line::LineError;
 use crate::nodes::Nodes;
+use crate::snapshot::Snapshot;
 use lazy_msgs::{Envelope, EventRefused, WorldEvent};
 use lazy_rules::MESSAGES_LIMIT;
 use rec_id::{Event, Line};
@@ -54,10 +48,9 @@ impl World {
         })
     }
 
-    /// One event. It is refused in the order of [`EventRefused`], and then nothing is changed. An
-    /// accepted one stands behind those that led to the world before.
+    /// One event. It is refused in the order of [`EventRefused`], and then nothing is changed. An accepted one
+    /// stands behind those that led to the world before.
     pub fn event(&mut self, event: &WorldEvent) -> Result<(), EventRefused>
-        requires built { IsBuilt self.old.shape event.now }
         requires countable { self.old.events + 1 < 2 ^ 32 }
         ensures appends { Appends event.now self.old self.new result }
         ensures happens { Happens event.now self.old self.new result }
@@ -101,22 +94,26 @@ impl World {
         self.nodes.message(k)
     }
 
-    /// The holders of the log: the sequencing replicas of the latest started view that aren't crashed,
-    /// in its order; the taken state alone, while there is one.
+    /// The states of its nodes, and which of them are crashed.
+    pub fn snapshot(&self) -> &Snapshot
+        ensures { world_of_standing result.now ≡ bare self.now }
+    {
+        self.nodes.snapshot()
+    }
+
+    /// The holders of the log: the sequencing replicas of the latest started view that aren't crashed, in its
+    /// order; the taken state alone, while there is one.
     pub fn holders(&self) -> Result<NodeList, AllocError>
         ensures { IfOk result (λ nodes. nodes ≡ holders self.now) }
     {
-        self.nodes.holders()
+        self.nodes.snapshot().holders()
     }
 
-    /// The log, as this holder has it, which is lawful for the history; `Lost` where a shard has no
-    /// replica left.
+    /// The log, as this holder has it; `Lost` where a shard has no replica left.
     pub fn line(&self, holder: u32) -> Result<Line, LineError>
-        requires { has_node (holders self.now) holder ≡ true }
-        ensures told { IfOk result (λ line. line_told self.now holder ≡ Ok line) }
-        ensures lost { (shard : ℕ) → result ≡ Err (LineError.Lost shard) → line_told self.now holder ≡ Err shard }
-        ensures lawful { IfOk result (λ line. Lawful self.now.history line) }
+        ensures told { TellsLine self.now holder result }
+        ensures lawful { IsLawfulLine self.now holder result }
     {
-        self.nodes.line(holder)
+        self.nodes.snapshot().line(holder)
     }
 }

@@ -16,7 +16,7 @@ use Rattle.trace_script.specs.declared.command.Command.{Command}
 use Rattle.lazylog_trace.specs.Apply.{Applied, applied, until_spent, events_of}
 use Rattle.lazylog_trace.specs.Output.{Progress, Output, goes_on, stops, lines_limit, command_output, parsed_output, line_output, long_output, byte_output, behind, continued_from, end_output, script_output, bytes_output}
 use Rattle.trace_script.specs.Script.{command_of}
-use Rattle.log_safety.proofs.worlds.Runs.{run_append}
+use Rattle.world_facts.proofs.Runs.{run_append}
 use Rattle.lazylog_trace.proofs.Events.{run_gained}
 use Rattle.lazylog_trace.proofs.AppliedEvents.{until_spent_run}
 use Rattle.trace_script.specs.Spelling.{IsSayable}

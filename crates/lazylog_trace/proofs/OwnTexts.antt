@@ -6,7 +6,7 @@ use Rattle.std.proofs.lemmas.List.{map-append}
 use Rattle.std.proofs.lemmas.List.Elements.{filter-append}
 use Rattle.list_facts.specs.Lists.{In, Each, Front}
 use Rattle.list_facts.proofs.Fronts.{front_append, front_trans}
-use Rattle.log_safety.proofs.worlds.Runs.{run_append}
+use Rattle.world_facts.proofs.Runs.{run_append}
 use Rattle.lazy_msgs.specs.declared.input.WorldEvent.{WorldEvent}
 use Rattle.lazy_rules.specs.WorldRules.{run}
 use Rattle.list_facts.proofs.Members.{each_append, each_weaker, in_each}

@@ -1,17 +1,19 @@
 -- What is printed of a script is made of whole texts, and bytes of whole texts are parted into them again.
 use Rattle.std.proofs.Common.{◌≡◌, ℕ, List, [], ◌∷◌, ◌++◌, map, Bool, true, false, not, Option, Some, None, refl, sym, ap, ◌∙◌, subst, append_assoc, append-nil}
-use Rattle.std.specs.Prelude.{◌==◌, filter, if◌then◌else◌, length, Result, Ok, Err, codes}
+use Rattle.std.specs.Prelude.{◌==◌, filter, if◌then◌else◌, length, Result, Ok, Err, codes, decimal}
 use Rattle.std.proofs.lemmas.Bool.{and_parts}
 use Rattle.std.proofs.lemmas.Grind.{flat_map-append}
 use Rattle.std.proofs.lemmas.List.Elements.{filter-append}
 use Rattle.list_facts.specs.Lists.{In, Each}
 use Rattle.list_facts.proofs.Cases.{by_test}
 use Rattle.list_facts.proofs.Members.{each_append, each_in, each_left, filter_in, in_each, in_mapped}
+use Rattle.rec_id.specs.Identity.{Identity}
+use Rattle.rec_id.specs.declared.event.Ask.{Ask}
+use Rattle.rec_id.specs.declared.event.Ask.TheVariants.{Range, Tail}
 use Rattle.rec_id.specs.declared.entry.Entry.{Entry}
 use Rattle.rec_id.specs.declared.event.Event.{Event}
-use Rattle.rec_id.specs.declared.event.Event.TheVariants.{Invoke, Acked}
+use Rattle.rec_id.specs.declared.event.Event.TheVariants.{Invoke, Acked, Rejected, Begin, Answer, Seen, TrimAsk, TrimDone, Trimmed}
 use Rattle.view_config.specs.Shape.{Dimensions, IsShape}
-use Rattle.view_config.specs.declared.edition.Mode.TheVariants.{M}
 use Rattle.io_edges.specs.declared.status.Status.{Status}
 use Rattle.io_edges.specs.declared.status.Status.TheVariants.{Done, Usage, BadLine, ReadFault, WriteFault, Memory, Limit}
 use Rattle.lazy_msgs.specs.declared.input.WorldEvent.{WorldEvent}
@@ -23,8 +25,8 @@ use Rattle.lazy_rules.specs.WorldState.{WorldState, first_world}
 use Rattle.lazy_rules.specs.WorldRules.{refusal, run}
 use Rattle.trace_script.specs.declared.node_word.NodeWord.{NodeWord}
 use Rattle.trace_script.specs.Nodes.{node_of_word}
-use Rattle.trace_script.specs.EntryTexts.{id_text}
-use Rattle.trace_script.specs.EventTexts.{event_text}
+use Rattle.trace_script.specs.EntryTexts.{id_text, entry_text, parted, spaced}
+use Rattle.trace_script.specs.EventTexts.{answer_text, ask_text, event_text, floor_text, read_text, tail_text}
 use Rattle.trace_script.specs.RefusalTexts.{no_node_text, refused_text}
 use Rattle.trace_script.specs.LineTexts.{line_text, lost_text, no_holder_text}
 use Rattle.trace_script.specs.EndTexts.{bad_line_text, end_text, limit_text, read_fault_text}
@@ -34,7 +36,7 @@ use Rattle.lazylog_trace.specs.Apply.{with_newline, event_texts, refusal_texts, 
 use Rattle.lazylog_trace.specs.Output.{Progress, closing, printed}
 use Rattle.lazylog_trace.specs.Printed.{Prints, is_event_text, texts_from, texts_of}
 use Rattle.lazylog_trace.proofs.PlainHistory.{IsClean, history_clean, line_flat}
-use Rattle.trace_script.proofs.Newlines.{IsFlat, flat_append, flat_decimal, flat_end, flat_id, flat_line, flat_lost, flat_no_node, flat_refused, is_flat}
+use Rattle.trace_script.proofs.Newlines.{IsFlat, IsFlatEntry, flat_append, flat_decimal, flat_end, flat_id, flat_line, flat_lost, flat_no_node, flat_parted, flat_refused, is_flat}
 use Rattle.lazylog_trace.proofs.PlainEvents.{IsPlain}
 use Rattle.lazylog_trace.proofs.OwnTexts.{IsOwnText, Made}
 
@@ -73,10 +75,54 @@ parted_again (line ∷ lines) h =
 
 -- events
 
+flat_ask : (ask : Ask) → IsFlat (ask_text ask)
+flat_ask (Range from to) = flat_append (decimal from) (codes " to " ++ decimal to) (flat_decimal from) (flat_decimal to)
+flat_ask (Tail from) = flat_decimal from
+
+flat_tail : (tail : Option ℕ) → IsFlat (tail_text tail)
+flat_tail None = refl
+flat_tail (Some t) = flat_decimal t
+
+-- a client's read, with this behind it
+flat_read : (client read : ℕ) (rest : List ℕ) → IsFlat rest → IsFlat (read_text client read rest)
+flat_read client read rest flat = flat_append (decimal client) (codes " read " ++ (decimal read ++ rest)) (flat_decimal client) (flat_append (decimal read) rest (flat_decimal read) flat)
+
+flat_answer : (client read from : ℕ) (entries : List Entry) (tail : Option ℕ) → Each IsFlatEntry entries → IsFlat (answer_text client read from entries tail)
+flat_answer client read from entries tail clean =
+    flat_read client read (codes " answered: from " ++ (decimal from ++ (codes ", tail " ++ (tail_text tail ++ (codes ": " ++ parted entry_text entries)))))
+    (flat_append (decimal from) (codes ", tail " ++ (tail_text tail ++ (codes ": " ++ parted entry_text entries))) (flat_decimal from)
+    (flat_append (tail_text tail) (codes ": " ++ parted entry_text entries) (flat_tail tail) (flat_parted entries clean)))
+
+flat_spaced_ids : (ids : List Identity) → IsFlat (spaced id_text ids)
+flat_spaced_ids [] = refl
+flat_spaced_ids (id ∷ ids) = flat_append (id_text id) (spaced id_text ids) (flat_id id) (flat_spaced_ids ids)
+
+flat_ids : (ids : List Identity) → IsFlat (parted id_text ids)
+flat_ids [] = refl
+flat_ids (id ∷ ids) = flat_append (id_text id) (spaced id_text ids) (flat_id id) (flat_spaced_ids ids)
+
+flat_floor : (client : ℕ) (kind : List ℕ) (read : ℕ) (what : List ℕ) (floor : ℕ) → IsFlat kind → IsFlat what → IsFlat (floor_text client kind read what floor)
+flat_floor client kind read what floor flat_kind flat_what =
+    flat_append (decimal client) (codes " " ++ (kind ++ (codes " " ++ (decimal read ++ (codes " " ++ (what ++ (codes ": below " ++ decimal floor))))))) (flat_decimal client)
+    (flat_append kind (codes " " ++ (decimal read ++ (codes " " ++ (what ++ (codes ": below " ++ decimal floor))))) flat_kind
+    (flat_append (decimal read) (codes " " ++ (what ++ (codes ": below " ++ decimal floor))) (flat_decimal read)
+    (flat_append what (codes ": below " ++ decimal floor) flat_what (flat_decimal floor))))
+
+flat_event : (event : Event) → IsClean event → IsFlat (event_text event)
+flat_event (Invoke id bytes) clean = flat_append (id_text id) (codes " invoked") (flat_id id) refl
+flat_event (Acked id) clean = flat_append (id_text id) (codes " acked") (flat_id id) refl
+flat_event (Rejected id place) clean = flat_append (id_text id) (codes " rejected at " ++ decimal place) (flat_id id) (flat_decimal place)
+flat_event (Begin client read ask) clean = flat_read client read (codes " begun: " ++ ask_text ask) (flat_ask ask)
+flat_event (Answer client read from entries tail) clean = flat_answer client read from entries tail clean
+flat_event (Seen client from ids) clean =
+    flat_append (decimal client) (codes " seen " ++ (decimal from ++ (codes ": " ++ parted id_text ids))) (flat_decimal client)
+    (flat_append (decimal from) (codes ": " ++ parted id_text ids) (flat_decimal from) (flat_ids ids))
+flat_event (TrimAsk client read floor) clean = flat_floor client (codes "trim") read (codes "begun") floor refl refl
+flat_event (TrimDone client read floor) clean = flat_floor client (codes "trim") read (codes "done") floor refl refl
+flat_event (Trimmed client read floor) clean = flat_floor client (codes "read") read (codes "trimmed") floor refl refl
+
 clean_text : (event : Event) → IsClean event → IsWhole (with_newline (event_text event))
-clean_text (Invoke id bytes) clean = whole (event_text (Invoke id bytes)) (flat_append (id_text id) (codes " invoked") (flat_id id) refl)
-clean_text (Acked id) clean = whole (event_text (Acked id)) (flat_append (id_text id) (codes " acked") (flat_id id) refl)
-clean_text _ clean = absurd clean
+clean_text event clean = whole (event_text event) (flat_event event clean)
 
 -- the texts that commands print of themselves
 
@@ -84,13 +130,13 @@ refusal_are : (refused : Option EventRefused) → Each IsWhole (refusal_texts re
 refusal_are None = tt
 refusal_are (Some refused) = (whole (refused_text refused) (flat_refused refused), tt)
 
-module _ (shape : Dimensions) (formed : IsShape shape) (mode : shape.mode ≡ M) where
+module _ (shape : Dimensions) (formed : IsShape shape) where
   module _ (passed : List WorldEvent) (plain : Each IsPlain passed) where
     abbrev w : WorldState
     w = run passed (first_world shape)
 
     held_is : (holder : ℕ) (told : Result (List Entry) ℕ) → In holder (holders w) → line_told w holder ≡ told → IsWhole (with_newline (held_text holder told))
-    held_is holder (Ok line) among is = whole (line_text holder line) (flat_line holder line (line_flat shape formed mode passed plain holder line among is))
+    held_is holder (Ok line) among is = whole (line_text holder line) (flat_line holder line (line_flat shape formed passed plain holder line among is))
     held_is holder (Err shard) among is = whole (lost_text holder shard) (flat_lost holder shard)
 
     each_is : (nodes : List ℕ) → Each (λ holder. In holder (holders w)) nodes → Each IsWhole (map (holder_text w) nodes)
@@ -122,7 +168,7 @@ module _ (shape : Dimensions) (formed : IsShape shape) (mode : shape.mode ≡ M)
     event_text_is : (told : List Event) (line : List ℕ) → told ≡ (run events (first_world shape)).history → In line (event_texts told) → IsWhole line
     event_text_is told line is among =
         let k = in_mapped (λ (event : Event). with_newline (event_text event)) line told among in
-        let clean = each_in IsClean (run events (first_world shape)).history (history_clean shape formed mode events plain) k.0 (subst (λ (h : List Event). In k.0 h) is k.1) in
+        let clean = each_in IsClean (run events (first_world shape)).history (history_clean shape formed events plain) k.0 (subst (λ (h : List Event). In k.0 h) is k.1) in
         subst IsWhole k.2 (clean_text k.0 clean)
 
     pub made_texts : (text : List ℕ) (told : List Event) (made : Made (first_world shape) events text told) → told ≡ (run events (first_world shape)).history → Each IsWhole made.lines
@@ -151,15 +197,15 @@ last_text_is (Err WriteFault) = record { lines = []; is = refl; are = tt; other 
 last_text_is (Err Memory) = record { lines = []; is = refl; are = tt; other = refl }
 
 -- output that is made of texts, and the last text behind it
-pub made_prints : (shape : Dimensions) → IsShape shape → shape.mode ≡ M → (events : List WorldEvent) → Each IsPlain events → (text : List ℕ) (told : List Event) (end : Result Progress Status) → Made (first_world shape) events text told → told ≡ (run events (first_world shape)).history → Prints (text ++ closing end) told
-made_prints shape formed mode events plain text told end made is =
+pub made_prints : (shape : Dimensions) → IsShape shape → (events : List WorldEvent) → Each IsPlain events → (text : List ℕ) (told : List Event) (end : Result Progress Status) → Made (first_world shape) events text told → told ≡ (run events (first_world shape)).history → Prints (text ++ closing end) told
+made_prints shape formed events plain text told end made is =
     let last = last_text_is end in
     let all : List (List ℕ) = made.lines ++ last.lines in
     let text_is : text ++ closing end ≡ printed all = ap (λ (t : List ℕ). t ++ closing end) made.text_is ∙ ap (λ (t : List ℕ). printed made.lines ++ t) last.is ∙ sym (flat_map-append (λ (line : List ℕ). line) made.lines last.lines) in
     record {
       events_are =
           ap (λ (t : List ℕ). filter is_event_text (texts_of t)) text_is
-          ∙ ap (filter is_event_text) (parted_again all (each_append IsWhole made.lines last.lines (made_texts shape formed mode events plain text told made is) last.are))
+          ∙ ap (filter is_event_text) (parted_again all (each_append IsWhole made.lines last.lines (made_texts shape formed events plain text told made is) last.are))
           ∙ filter-append is_event_text made.lines last.lines
           ∙ ap (λ (lines : List (List ℕ)). lines ++ filter is_event_text last.lines) made.events_are
           ∙ ap (λ (lines : List (List ℕ)). event_texts told ++ lines) last.other

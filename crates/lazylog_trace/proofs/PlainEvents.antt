@@ -17,8 +17,7 @@ use Rattle.lazylog_trace.specs.Apply.{events_of, is_spent, posts, until_spent}
 
 abbrev pub IsPlain : WorldEvent → Type 0
 IsPlain (Post client bytes) = IsFlat bytes
-IsPlain (DeliverEvent message) = Unit {0}
-IsPlain _ = ⊥
+IsPlain _ = Unit {0}
 
 plain_deliveries : (messages : List ℕ) → Each IsPlain (map DeliverEvent messages)
 plain_deliveries [] = tt

@@ -30,7 +30,7 @@ module _ (source : SourceUse) (shape : Dimensions) (formed : IsShape shape) (mod
   prints t f end is =
       let grown : (run t.events start.world).history ≡ f.growth = f.grew in
       subst (λ (es : List WorldEvent). Prints (t.text ++ closing end) (run es start.world).history) (sym is)
-      (subst (λ (h : List Event). Prints (t.text ++ closing end) h) (sym grown) (made_prints shape formed mode t.events f.plain t.text f.growth end f.made (sym grown)))
+      (subst (λ (h : List Event). Prints (t.text ++ closing end) h) (sym grown) (made_prints shape formed t.events f.plain t.text f.growth end f.made (sym grown)))
 
   whole_front : (text : List ℕ) → after ≡ append_known before text → Stops before after text
   whole_front text written = stops_going (goes_piece text (sym (append-nil text)) written)

@@ -19,7 +19,7 @@ use Rattle.lazylog_trace.specs.Streams.{SinkUse, SourceUse}
 use Rattle.lazylog_trace.specs.Printed.{Shows}
 use Rattle.lazylog_trace.proofs.PrintedHistory.{shown}
 use Rattle.rec_id.specs.declared.event.Event.{Event}
-use Rattle.log_safety.proofs.worlds.Runs.{run_append}
+use Rattle.world_facts.proofs.Runs.{run_append}
 use Rattle.lazylog_trace.proofs.OutputRuns.{bytes_follow, script_follows}
 
 -- a trace of these bytes: the events that it applied, and the world that they led to

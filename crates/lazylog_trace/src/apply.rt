@@ -4,7 +4,6 @@
 
 ghost use Rattle.std.specs.Prelude.{◌≡◌, ◌+◌, ◌^◌, ◌<◌, ◌≤◌, ◌++◌, [], ◌∷◌, map, true, IfOk, OnOk, OnErr};
 ghost use Rattle.view_config.specs.declared.edition.Mode.TheVariants.{M};
-ghost use Rattle.log_safety.specs.Built.{IsBuilt};
 ghost use Rattle.lazy_rules.specs.Holders.{holders};
 ghost use Rattle.lazy_msgs.specs.declared.input.WorldEvent.TheVariants.{Deliver};
 ghost use Rattle.lazy_rules.specs.Rows.{has_node};
@@ -47,7 +46,6 @@ fn apply_event(
     event: &WorldEvent,
     texts: &mut TextList,
 ) -> Result<Outcome, AllocError>
-    requires built { IsBuilt world.old.shape event.now }
     requires countable { world.old.events + 1 < 2 ^ 32 }
     ensures applied { IfOk result (Applies (event.now ∷ []) world.old world.new) }
     ensures prints { OnOk result (texts.new ≡ texts.old ++ refusal_texts (refusal world.old event.now)) }

@@ -57,7 +57,7 @@ flat_spaced : (entries : List Entry) → Each IsFlatEntry entries → IsFlat (sp
 flat_spaced [] h = refl
 flat_spaced (entry ∷ entries) h = flat_append (entry_text entry) (spaced entry_text entries) (flat_entry entry h.0) (flat_spaced entries h.1)
 
-flat_parted : (entries : List Entry) → Each IsFlatEntry entries → IsFlat (parted entry_text entries)
+pub flat_parted : (entries : List Entry) → Each IsFlatEntry entries → IsFlat (parted entry_text entries)
 flat_parted [] h = refl
 flat_parted (entry ∷ entries) h = flat_append (entry_text entry) (spaced entry_text entries) (flat_entry entry h.0) (flat_spaced entries h.1)
 

@@ -1,24 +1,14 @@
-use Rattle.std.proofs.Common.{◌≡◌, ◌<◌, length, true, false, sym, subst, ◌∙◌, arith}
-use Rattle.lazy_rules.specs.Rows.{has_node}
-use Rattle.lazy_rules.specs.WorldState.{WorldState}
-use Rattle.lazy_core.specs.Early.{IsSound}
-use Rattle.lazy_core.specs.WorldView.{world_of}
-use Rattle.lazy_core.proofs.Addressees.{crashed_post, post_received}
+use Rattle.std.proofs.Common.{◌≡◌, List, ℕ, sym, subst}
+use Rattle.lazy_msgs.specs.declared.input.Input.TheVariants.{Post as PostInput}
+use Rattle.lazy_msgs.specs.declared.input.WorldEvent.TheVariants.{Post}
+use Rattle.lazy_core.specs.Turning.{IsTurnOf}
+use Rattle.lazy_core.proofs.ClientEvents.{post_refused, post_turn}
+use Rattle.lazy_core.proofs.ComesTo.{client_comes_to}
 use Rattle.lazy_core.proofs.nodes.Nodes.post.Goals as goal
-
-pub returns-then-contains : goal.returns-then-contains
-returns-then-contains c =
-    let w = world_of c.self.inside in
-    let below : c.args.c < length w.clients = omega (arith, c.len.ensures, c.if-c-len.false) in
-    let dead : has_node w.crashed c.args.c ≡ true = rw (← c.deref.ensures.value) (sym c.contains.ensures.value ∙ c.if-contains.true) in
-    rw (← c.self.view_is) (crashed_post w c.args.c c.args.room c.args.bytes.now below dead)
 
 pub returns : goal.returns
 returns c =
-    let w = world_of c.self.inside in
-    let below : c.args.c < length w.clients = omega (arith, c.len.ensures, c.if-c-len.false) in
-    let alive : has_node w.crashed c.args.c ≡ false = rw (← c.deref.ensures.value) (sym c.contains.ensures.value ∙ c.if-contains.false) in
-    post_received c.args.self.now c.post_to_client.new.self c.args.c c.args.room c.args.bytes.now c.post_to_client.result (subst IsSound c.self.view_is c.self.invariant)
-    (subst (λ (v : WorldState). c.args.c < length v.clients) c.self.view_is below)
-    (subst (λ (v : WorldState). has_node v.crashed c.args.c ≡ false) c.self.view_is alive)
-    c.post_to_client.ensures
+    client_comes_to c.args.self.now (Post c.args.c c.args.bytes.now) c.args.c (record { node = c.args.c; input = PostInput c.in_ok-clone.field-0; received = 0 }) c.client_turn.result
+    c.client_turn.ensures.turn c.client_turn.ensures.allowed c.client_turn.ensures.refused c.client_turn.ensures.named
+    (λ free. subst (λ (bytes : List ℕ). IsTurnOf c.args.self.now (Post c.args.c c.args.bytes.now) (record { node = c.args.c; input = PostInput bytes; received = 0 })) (sym c.in_ok-clone.ensures.cases) (post_turn c.args.self.now c.requires c.args.c free c.args.bytes.now))
+    (λ e refused. post_refused c.args.self.now c.args.c e refused c.requires c.args.bytes.now)

@@ -1,7 +1,0 @@
-use Rattle.std.proofs.Common.{◌≡◌, not, take}
-use Rattle.std.specs.List.{filter}
-use Rattle.lazy_rules.specs.Rows.{has_node}
-use Rattle.lazy_core.proofs.line.alive.Given as goal
-
-abbrev pub invariant-loop-node : goal.invariant-loop-node
-invariant-loop-node l = l.left ≡ filter (λ node. not (has_node l.crashed node)) (take l.node-index l.nodes)

@@ -1,4 +1,0 @@
-pub mod facts
-pub mod rows
-pub mod worlds
-pub mod lines
