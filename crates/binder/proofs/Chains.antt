@@ -16,7 +16,7 @@ SameSpans [] (y ∷ ys) = ⊥
 SameSpans (x ∷ xs) [] = ⊥
 SameSpans (x ∷ xs) (y ∷ ys) = (x.from ≡ y.from) × (x.count ≡ y.count) × SameSpans xs ys
 
-same_itself : (xs : List Batch) → SameSpans xs xs
+pub same_itself : (xs : List Batch) → SameSpans xs xs
 same_itself [] = tt
 same_itself (x ∷ xs) = (refl, refl, same_itself xs)
 
@@ -56,7 +56,7 @@ length_same [] (y ∷ ys) same = absurd same
 length_same (x ∷ xs) [] same = absurd same
 length_same (x ∷ xs) (y ∷ ys) same = let rest = length_same xs ys same.2 in omega arith
 
-chain_same : (from : ℕ) (xs ys : List Batch) → SameSpans xs ys → IsChain from ys → IsChain from xs
+pub chain_same : (from : ℕ) (xs ys : List Batch) → SameSpans xs ys → IsChain from ys → IsChain from xs
 chain_same from [] [] same chain = tt
 chain_same from [] (y ∷ ys) same chain = absurd same
 chain_same from (x ∷ xs) [] same chain = absurd same

@@ -4,3 +4,4 @@ pub mod Flights
 pub mod Chains
 pub mod PassedBatches
 pub mod ReadyReads
+pub mod Leaving

@@ -1,5 +1,5 @@
 -- The answers of nodes that are numbered below a count: all answered where there are as many answers.
-use Rattle.std.proofs.Common.{◌≡◌, ℕ, zero, suc, ◌+◌, ◌<◌, ◌≤◌, ◌⊎◌, List, [], ◌∷◌, ◌++◌, Bool, true, false, ◌||◌, eqb, length, get_or, inl, inr, sym, ap, ◌∙◌, refl, arith}
+use Rattle.std.proofs.Common.{◌≡◌, ℕ, zero, suc, ◌+◌, ◌-◌, ◌<◌, ◌≤◌, ◌⊎◌, List, [], ◌∷◌, ◌++◌, Bool, true, false, ◌||◌, eqb, length, get_or, inl, inr, sym, ap, ◌∙◌, refl, arith}
 use Rattle.std.specs.List.{IsDistinct, list_all, range_with_len}
 use Rattle.std.specs.Set.{is_member}
 use Rattle.std.proofs.lemmas.Bool.{cases_eq, cases_Bool, and_parts, and_from, or_cases, or_left, or_right, eqb-true, eq-eqb, ne_eqb, both_ways}
@@ -128,3 +128,17 @@ no_answers count room fits = record {
   below = λ node is. let wrong : false ≡ true = is in cc;
   fits = fits;
 }
+
+-- ---- as many answers as are awaited, with one more
+one_less : (n count m : ℕ) → 1 ≤ count → m ≡ suc n → eqb n (count - 1) ≡ eqb m count
+one_less n count m some is = elim (cases_eq n (count - 1)) [
+  | inl same ↦ eq-eqb n (count - 1) same ∙ sym (eq-eqb m count (omega (arith, same, some, is)))
+  | inr apart ↦ ne_eqb n (count - 1) apart ∙ sym (ne_eqb m count (λ same. apart (omega (arith, same, some, is))))
+]
+
+pub all_there_with : (count : ℕ) (given : List ℕ) (room : ℕ) → IsRoster count given room → (node : ℕ) → node < count → has_node given node ≡ false
+    → eqb (length given) (count - 1) ≡ has_all count (given ++ node ∷ [])
+all_there_with count given room are node inside new =
+    let next : IsRoster count (given ++ node ∷ []) room = with_answer count given room are node inside new in
+    let long : length (given ++ node ∷ []) ≡ suc (length given) = omega (arith, length_push given node) in
+    one_less (length given) count (length (given ++ node ∷ [])) (omega (arith, inside)) long ∙ all_there count (given ++ node ∷ []) room next

@@ -1,4 +1,4 @@
-use Rattle.std.specs.Prelude.{ℕ, List, [], ◌∷◌, length, ◌==◌, if◌then◌else◌}
+use Rattle.std.specs.Prelude.{ℕ, suc, List, [], ◌∷◌, length, ◌==◌, if◌then◌else◌}
 use Rattle.lazy_rules.specs.Flight.{Batch, Probe, has_placing, has_ordering, with_place, with_order, passed, passing, has_later_probe, with_probe, is_finished, is_ready}
 use Rattle.binder.specs.declared.batch.Batch.{Batch as Outline}
 use Rattle.binder.specs.declared.batch.Progress.{Progress}
@@ -59,3 +59,8 @@ after_finish followers (batch ∷ others) = if is_finished followers batch then 
 abbrev pub after_ready : ℕ → List Probe → List Probe
 after_ready bound [] = []
 after_ready bound (probe ∷ others) = if is_ready bound probe then others else probe ∷ after_ready bound others
+
+-- how many batches leave: the first ones, while they are finished
+abbrev pub leaving : ℕ → List Batch → ℕ
+leaving followers [] = 0
+leaving followers (batch ∷ others) = if is_finished followers batch then suc (leaving followers others) else 0

@@ -74,6 +74,17 @@ impl Answers {
         self.given.len() == self.count as usize
     }
 
+    /// They are all, once this node has answered.
+    pub(crate) fn are_all_with(&self, node: u32) -> bool
+        requires { node < self.now.count }
+        ensures { result ≡ has_all self.now.count (answered_by self.now.given node) }
+    {
+        if self.has(node) {
+            return self.are_all();
+        }
+        self.given.len() == self.count as usize - 1
+    }
+
     pub(crate) fn clear(&mut self)
         ensures { self.new ≡ record self.old { given = [] } }
     {

@@ -1,13 +1,13 @@
 //! The binder itself.
 
 ghost use Rattle.std.specs.Prelude.{◌≡◌, ℕ, ◌+◌, ◌^◌, ◌<◌, ◌≤◌, length, nat_lt, not, option_map, slice_get, Some, IfOk, is_some, vec_capacity};
-ghost use Rattle.lazy_rules.specs.Flight.{Probe, flight_end, with_batch, lacks_place, lacks_order, finish, has_later_probe, greatest, ready};
+ghost use Rattle.lazy_rules.specs.Flight.{Probe, flight_end, with_batch, with_order, lacks_place, lacks_order, finish, has_later_probe, has_ordering, greatest, ready};
 ghost use Rattle.binder.specs.Held.{AllFor};
 ghost use Rattle.binder.specs.Sound.{IsFlight};
-ghost use Rattle.binder.specs.Binding.{first_binding, outline, probe_of, placed_flight, placed_progress, ordered_flight, ordered_progress, probes_with, after_finish, after_ready};
+ghost use Rattle.binder.specs.Binding.{first_binding, leaving, outline, probe_of, placed_flight, placed_progress, ordered_flight, ordered_progress, probes_with, after_finish, after_ready};
 
 use crate::batch::{Batch, Progress};
-use crate::flight::{order, place};
+use crate::flight::{self, order, place};
 use crate::probe::Probe;
 use crate::slot::Slot;
 use crate::waiting::Reads;
@@ -161,6 +161,22 @@ impl Binder {
         ensures progress { result ≡ ordered_progress self.old.flight upto }
     {
         order(&mut self.flight, follower, upto)
+    }
+
+    /// A batch is ordered that ends at `upto`.
+    pub fn has_ordering(&self, upto: u32) -> bool
+        ensures { result ≡ has_ordering self.now.flight upto }
+    {
+        flight::has_ordering(&self.flight, upto)
+    }
+
+    /// How many batches leave once the follower's answer is noted.
+    pub fn leaving_ordered(&self, follower: u32, upto: u32) -> u32
+        requires { follower < self.now.followers }
+        ensures leaving { result ≡ leaving self.now.followers (with_order self.now.flight follower upto) }
+        ensures few { result ≤ length self.now.flight }
+    {
+        flight::leaving_ordered(&self.flight, follower, upto)
     }
 
     fn is_finished(&self) -> bool

@@ -2,8 +2,8 @@
 
 ghost use Rattle.std.specs.Prelude.{◌≡◌, ℕ, ◌+◌, ◌^◌, ◌<◌, ◌≤◌, length};
 ghost use Rattle.lazy_rules.specs.Flight.{has_placing, has_ordering, with_place, with_order, passed, passing};
-ghost use Rattle.binder.specs.Binding.{placed_flight, placed_progress, progress_of, ordered_flight, ordered_progress};
-ghost use Rattle.binder.specs.Held.{Each, batches, rooms};
+ghost use Rattle.binder.specs.Binding.{leaving, placed_flight, placed_progress, progress_of, ordered_flight, ordered_progress};
+ghost use Rattle.binder.specs.Held.{AllFor, Each, batches, rooms};
 
 use crate::batch::Progress;
 use crate::slot::Slot;
@@ -100,4 +100,32 @@ pub(crate) fn order(flight: &mut [Slot], follower: u32, upto: u32) -> Progress
         return Progress::Ignored;
     }
     Progress::Waiting
+}
+
+/// A batch is ordered that ends at `upto`.
+pub(crate) fn has_ordering(flight: &[Slot], upto: u32) -> bool
+    ensures { result ≡ has_ordering (batches flight.now) upto }
+{
+    match flight.split_first() {
+        Some((first, others)) => first.is_ordering_to(upto) || has_ordering(others, upto),
+        None => false,
+    }
+}
+
+/// How many batches leave once the follower's answer is noted.
+pub(crate) fn leaving_ordered(flight: &[Slot], follower: u32, upto: u32) -> u32
+    requires few { length flight.now < 2 ^ 32 }
+    requires room { Each (λ held. follower < held.followers) flight.now }
+    ensures leaving { (shards followers : ℕ) → AllFor shards followers flight.now → result ≡ leaving followers (with_order (batches flight.now) follower upto) }
+    ensures few { result ≤ length flight.now }
+{
+    match flight.split_first() {
+        Some((first, others)) => {
+            if first.is_finished_with(follower, upto) {
+                return leaving_ordered(others, follower, upto) + 1;
+            }
+            0
+        }
+        None => 0,
+    }
 }

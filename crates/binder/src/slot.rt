@@ -118,6 +118,24 @@ impl Slot {
         !self.ordered.has(follower)
     }
 
+    /// The batch is ordered, and ends at `upto`.
+    pub(crate) fn is_ordering_to(&self, upto: u32) -> bool
+        ensures { result ≡ is_ordering_to upto self.now.batch }
+    {
+        self.ordering && self.ends_at(upto)
+    }
+
+    /// It is finished, once this follower has answered for all positions below `upto`.
+    pub(crate) fn is_finished_with(&self, follower: u32, upto: u32) -> bool
+        requires { follower < self.now.followers }
+        ensures { result ≡ is_finished self.now.followers (order_noted upto follower self.now.batch) }
+    {
+        if self.is_ordering_to(upto) {
+            return self.ordered.are_all_with(follower);
+        }
+        self.is_finished()
+    }
+
     /// Notes the shard's answer where the batch is being placed and ends at `upto`, and says whether.
     pub(crate) fn note_place(&mut self, shard: u32, upto: u32) -> bool
         requires { shard < self.old.shards }

@@ -127,7 +127,7 @@ forcing_nothing (suc n) s none = force_nothing n s (waits_above s.probes (flight
 
 -- FORCE begins just these, where below the end a read waits for more than a position if that is below the limit
 pub forcing_is : (room : ℕ) (s : SeqState) (limit : ℕ) → length s.flight + room ≤ FLIGHT_LIMIT → s.bound ≤ flight_end s.bound s.flight → limit ≤ pending_end s
-    → ((p : ℕ) → p < pending_end s → waits_above s.probes p ≡ ltb p limit) → flight_end s.bound s.flight ≤ pending_end s
+    → ((p : ℕ) → s.bound ≤ p → p < pending_end s → waits_above s.probes p ≡ ltb p limit) → flight_end s.bound s.flight ≤ pending_end s
     → forcing room s ≡ beginning s room limit
 forcing_is zero s limit free above within waiting inside = sym (beginning_none s 0 limit refl)
 forcing_is (suc room) s limit free above within waiting inside =
@@ -135,7 +135,7 @@ forcing_is (suc room) s limit free above within waiting inside =
     let long = behind_long s in
     elim (cases_lt from limit) [
       | inl below ↦
-          let waits : waits_above s.probes from ≡ true = waiting from (omega (arith, below, within)) ∙ lt-ltb from limit below in
+          let waits : waits_above s.probes from ≡ true = waiting from above (omega (arith, below, within)) ∙ lt-ltb from limit below in
           let after : SeqState = with_next s in
           let some : 1 ≤ length (behind s) = omega (arith, long, below, within, above) in
           let one : begins s ≡ sends_all after (place_sends s (next_batch s)) = begins_next s (omega (arith, free)) some in
@@ -151,7 +151,7 @@ forcing_is (suc room) s limit free above within waiting inside =
       | inr past ↦
           let none : beginning s (suc room) limit ≡ stays s = beginning_none s (suc room) limit (begun_none (suc room) from (pending_end s) limit past) in
           elim (cases_lt from (pending_end s)) [
-            | inl below ↦ forcing_stops (suc room) s (waiting from below ∙ le-ltb from limit past) ∙ sym none
+            | inl below ↦ forcing_stops (suc room) s (waiting from above below ∙ le-ltb from limit past) ∙ sym none
             | inr ended ↦ forcing_nothing (suc room) s (begins_none s (omega (arith, long, ended, above))) ∙ sym none
           ]
     ]

@@ -129,7 +129,7 @@ fewer followers (x ∷ xs) some = elim (cases_Bool (is_finished followers x)) [
   | inr fails ↦ let wrong : false ≡ true = rw fails at some in cc
 ]
 
-starts_tail : (from bound : ℕ) (xs : List Batch) → from ≡ bound → IsChain from xs → Starts bound xs
+pub starts_tail : (from bound : ℕ) (xs : List Batch) → from ≡ bound → IsChain from xs → Starts bound xs
 starts_tail from bound [] same chain = tt
 starts_tail from bound (x ∷ xs) same chain = chain.0.begins ∙ same
 

@@ -7,3 +7,4 @@ pub mod Forcing
 pub mod Going
 pub mod Noting
 pub mod Beginning
+pub mod Leaving

@@ -49,7 +49,7 @@ spans_then (x ∷ xs) [] zs p q = absurd p
 spans_then (x ∷ xs) (y ∷ ys) [] p q = absurd q
 spans_then (x ∷ xs) (y ∷ ys) (z ∷ zs) p q = (p.0 ∙ q.0, p.1 ∙ q.1, spans_then xs ys zs p.2 q.2)
 
-end_same : (xs ys : List Batch) (from : ℕ) → SameSpans xs ys → flight_end from xs ≡ flight_end from ys
+pub end_same : (xs ys : List Batch) (from : ℕ) → SameSpans xs ys → flight_end from xs ≡ flight_end from ys
 end_same [] [] from same = refl
 end_same [] (y ∷ ys) from same = absurd same
 end_same (x ∷ xs) [] from same = absurd same
@@ -57,7 +57,7 @@ end_same (x ∷ xs) (y ∷ ys) from same =
     let place : x.from + x.count ≡ y.from + y.count = omega (arith, same.0, same.1) in
     end_same xs ys (x.from + x.count) same.2 ∙ ap (λ (n : ℕ). flight_end n ys) place
 
-starts_same : (xs ys : List Batch) (bound : ℕ) → SameSpans xs ys → Starts bound ys → Starts bound xs
+pub starts_same : (xs ys : List Batch) (bound : ℕ) → SameSpans xs ys → Starts bound ys → Starts bound xs
 starts_same [] ys bound same starts = tt
 starts_same (x ∷ xs) [] bound same starts = absurd same
 starts_same (x ∷ xs) (y ∷ ys) bound same starts = same.0 ∙ starts

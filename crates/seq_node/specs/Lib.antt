@@ -5,3 +5,4 @@ pub mod NodeView
 pub mod Ahead
 pub mod Passing
 pub mod Beginning
+pub mod Leaving

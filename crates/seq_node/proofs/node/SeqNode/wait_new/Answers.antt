@@ -1,4 +1,4 @@
-use Rattle.std.proofs.Common.{◌≡◌, ℕ, ◌-◌, ◌<◌, ◌++◌, List, ltb, length, ap, ◌∙◌, sym, subst, arith}
+use Rattle.std.proofs.Common.{◌≡◌, ℕ, ◌-◌, ◌<◌, ◌≤◌, ◌++◌, List, ltb, length, ap, ◌∙◌, sym, subst, arith}
 use Rattle.std.specs.Prelude.{flat_map}
 use Rattle.std.proofs.lemmas.Bool.{lt-ltb}
 use Rattle.lazy_msgs.specs.declared.msg.Msg.{Msg}
@@ -32,8 +32,8 @@ returns c =
     c.in_ok-add_begun.ensures
     ∙ ap (λ (l : List (ℕ × Msg)). l ++ part c.flight_end-from.result) (c.in_ok-push.ensures.ok ∙ ap (λ (l : List (ℕ × Msg)). l ++ ack.sends) c.new-sends.ensures)
     ∙ ap (λ (n : ℕ). ack.sends ++ part n) from_is in
-    let waiting : (p : ℕ) → p < pending_end x → waits_above x.probes p ≡ ltb p limit =
-    λ p below. probe_waits s.probes (record { client = client; read = read; target = end }) p below ∙ sym (lt-ltb p limit (omega (arith, below, c.pending_end-end.ensures))) in
+    let waiting : (p : ℕ) → x.bound ≤ p → p < pending_end x → waits_above x.probes p ≡ ltb p limit =
+    λ p above below. probe_waits s.probes (record { client = client; read = read; target = end }) p below ∙ sym (lt-ltb p limit (omega (arith, below, c.pending_end-end.ensures))) in
     let room_is : FLIGHT_LIMIT - length s.flight ≡ room = omega (arith, c.room-room.ensures) in
     let forced : forces x ≡ beginning x room limit =
     ap (λ (n : ℕ). forcing n x) room_is
