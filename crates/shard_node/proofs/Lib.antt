@@ -1,3 +1,4 @@
 pub mod Rows
 pub mod Stores
 pub mod Doors
+pub mod Waiting

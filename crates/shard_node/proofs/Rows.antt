@@ -1,5 +1,5 @@
 -- Parts of rows, one after the other.
-use Rattle.std.proofs.Common.{◌≡◌, ℕ, List, [], ◌∷◌, ◌++◌, Bool, true, false, Option, Some, None, sym, ap, ◌∙◌, refl}
+use Rattle.std.proofs.Common.{◌≡◌, ℕ, List, [], ◌∷◌, ◌++◌, true, false, Option, Some, None, sym, ap, ◌∙◌, refl}
 use Rattle.std.proofs.lemmas.List.{append-nil, append_assoc, map-append}
 use Rattle.std.specs.List.{slice_get}
 use Rattle.rec_id.specs.declared.event.Event.{Event}
@@ -9,8 +9,8 @@ use Rattle.lazy_msgs.specs.Step.{Row}
 use Rattle.lazy_rules.specs.Rows.{stays, answers, joined, followed, to_each}
 use Rattle.lazy_rules.specs.ShardState.{ShardState, PlaceJob, FlushJob}
 use Rattle.lazy_rules.specs.Store.{Store}
-use Rattle.lazy_rules.specs.Pushing.{is_settled, places_end}
-use Rattle.shard_node.specs.Seated.{Part, Drafted, seated, row_of, ends}
+use Rattle.lazy_rules.specs.Pushing.{is_settled}
+use Rattle.shard_node.specs.Seated.{Part, seated, row_of, ends}
 
 -- a part that does nothing
 pub followed_same : (r : Row ShardState) (f : ShardState → Row ShardState) → f r.next ≡ stays r.next → r ≡ followed r f

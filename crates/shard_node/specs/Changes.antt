@@ -1,4 +1,4 @@
-use Rattle.std.specs.Prelude.{ℕ, ◌+◌, ◌^◌, ◌<◌, ◌≤◌, ◌≡◌, List, length, Option, IsTrue}
+use Rattle.std.specs.Prelude.{ℕ, ◌+◌, ◌^◌, ◌<◌, ◌≤◌, ◌≡◌, length, Option, IsTrue}
 use Rattle.lazy_rules.specs.Store.{Store, fill, open_to_noop, recut_cells, first_open}
 use Rattle.shard_store.specs.Sound.{is_open_at}
 use Rattle.shard_node.specs.declared.ahead.Change.{Change}

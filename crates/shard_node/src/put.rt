@@ -1,22 +1,43 @@
 //! Put: the data of a record comes by itself, before its place, at it, or too late.
 
-ghost use Rattle.std.specs.Prelude.{◌≡◌, [], ◌∷◌, IfOk, IsTrue};
+ghost use Rattle.std.specs.Prelude.{◌≡◌, [], ◌∷◌, true, IfOk, IsTrue};
+ghost use Rattle.std.specs.List.{list_all};
 ghost use Rattle.lazy_msgs.specs.declared.msg.Msg.TheVariants.{DataAck, Put};
 ghost use Rattle.lazy_msgs.specs.Step.{StepsTo};
+ghost use Rattle.lazy_rules.specs.Rows.{answers};
 ghost use Rattle.lazy_rules.specs.Store.{fill};
 ghost use Rattle.lazy_rules.specs.Pushing.{pushes_above};
 ghost use Rattle.lazy_rules.specs.ShardRules.{finds_noop, fills, holds, on_put, shard_took, with_store};
 ghost use Rattle.shard_node.specs.Seated.{row_from};
+ghost use Rattle.shard_node.specs.Waiting.{ends_above_both, PushesNothing};
 ghost use Rattle.shard_store.specs.Sound.{is_open_at};
 
 use crate::ahead::Ahead;
 use crate::door::{has_client, is_node};
 use crate::draft::{Draft, Made, copy_jobs};
 use crate::node::ShardNode;
+use crate::seat::PlaceJob;
 use lazy_msgs::{Msg, Outbox, SendList, StepRefused};
 use plain_lists::Sequence;
 use rec_id::{Bytes, RecordId};
 use std::alloc::AllocError;
+
+/// The job ends above `place` only if it ends above `other` too.
+fn ends_above_both(job: &PlaceJob, place: u32, other: u32) -> bool
+    ensures { result ≡ ends_above_both place other job.now }
+{
+    if place < job.end {
+        return other < job.end;
+    }
+    true
+}
+
+/// Each job that ends above `place` ends above `other` too.
+fn all_end_above_both(jobs: &[PlaceJob], place: u32, other: u32) -> bool
+    ensures { result ≡ list_all (ends_above_both place other) jobs.now }
+{
+    jobs.iter().all(|job| ends_above_both(job, place, other))
+}
 
 impl ShardNode {
     /// The record's no-op is at `place`: that is told once it is final.
@@ -60,8 +81,38 @@ impl ShardNode {
         Ok(sends)
     }
 
+    /// What waits for the open cell at `place` waits for another one too.
+    fn waits_beside(&self, place: u32) -> bool
+        requires { IsTrue (is_open_at self.now.store.order place) }
+        ensures { result ≡ true → PushesNothing self.now place }
+    {
+        match self.store.first_open_but(place) {
+            Some(other) => all_end_above_both(&self.jobs, place, other),
+            None => false,
+        }
+    }
+
+    /// Fills the open cell at `place`, and pushes nothing.
+    fn fill_alone(
+        &mut self,
+        sender: u32,
+        id: RecordId,
+        bytes: &Bytes,
+        place: u32,
+        out: &mut Outbox,
+    ) -> Result<(), StepRefused>
+        requires { IsTrue (is_open_at self.old.store.order place) }
+        ensures { StepsTo (answers (with_store self.old (fill self.old.store place bytes.now)) sender (DataAck self.old.view id)) self.old self.new out.old out.new result StepRefused.Over }
+    {
+        let bytes = bytes.clone()?;
+        let view = self.seat.view;
+        out.send(sender, Msg::DataAck { view, id })?;
+        self.store.fill(place, bytes);
+        Ok(())
+    }
+
     /// Fills the open cell at `place`, and pushes what waited for it.
-    fn fill(
+    fn fill_and_push(
         &mut self,
         sender: u32,
         id: RecordId,
@@ -81,6 +132,24 @@ impl ShardNode {
         self.jobs = jobs;
         self.flush = flush;
         Ok(())
+    }
+
+    /// Fills the open cell at `place`, and pushes what waited for it alone.
+    fn fill(
+        &mut self,
+        sender: u32,
+        id: RecordId,
+        bytes: &Bytes,
+        place: u32,
+        out: &mut Outbox,
+    ) -> Result<(), StepRefused>
+        requires { IsTrue (is_open_at self.old.store.order place) }
+        ensures { StepsTo (fills self.old sender id bytes.now place) self.old self.new out.old out.new result StepRefused.Over }
+    {
+        if self.waits_beside(place) {
+            return self.fill_alone(sender, id, bytes, place, out);
+        }
+        self.fill_and_push(sender, id, bytes, place, out)
     }
 
     /// Holds the data where it isn't there, and acknowledges it.

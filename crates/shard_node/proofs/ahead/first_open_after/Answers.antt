@@ -1,5 +1,5 @@
-use Rattle.std.proofs.Common.{◌≡◌, ◌≤◌, List, Some, None, sym, ap, ◌∙◌}
-use Rattle.std.specs.List.{position, position_or_len}
+use Rattle.std.proofs.Common.{List, sym, ap, ◌∙◌}
+use Rattle.std.specs.List.{position}
 use Rattle.rec_id.specs.declared.item.Cell.{Cell}
 use Rattle.shard_store.proofs.CellBodies.{is_open_cell}
 use Rattle.shard_node.proofs.Stores.{first_before, first_behind, none_behind, past_first}

@@ -1,4 +1,4 @@
-use Rattle.std.proofs.Common.{◌≡◌, subst, sym, ◌∙◌}
+use Rattle.std.proofs.Common.{subst, sym, ◌∙◌}
 use Rattle.lazy_msgs.specs.Step.{Row, StepsTo}
 use Rattle.lazy_msgs.specs.declared.refused.StepRefused.TheVariants.{Over}
 use Rattle.lazy_rules.specs.ShardState.{ShardState}

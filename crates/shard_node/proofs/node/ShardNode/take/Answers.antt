@@ -1,4 +1,4 @@
-use Rattle.std.proofs.Common.{◌≡◌, subst, sym, ap, ◌∙◌}
+use Rattle.std.proofs.Common.{subst, sym, ap, ◌∙◌}
 use Rattle.lazy_msgs.specs.Step.{Row, StepsTo}
 use Rattle.lazy_msgs.specs.declared.msg.Msg.{Msg}
 use Rattle.lazy_msgs.specs.declared.refused.StepRefused.TheVariants.{Over}
