@@ -1,6 +1,11 @@
 -- No text that is printed holds a newline.
-use Rattle.std.proofs.Common.{Option, Some, None, ℕ, List, [], ◌∷◌, ◌++◌, Bool, refl, arith}
-use Rattle.std.specs.Prelude.{◌==◌, codes, decimal}
+use Rattle.std.proofs.Common.{◌≡◌, Option, Some, None, ℕ, zero, suc, ◌+◌, List, [], ◌∷◌, ◌++◌, Bool, true, not, ◌&&◌, refl, ap, arith}
+use Rattle.std.specs.Prelude.{◌==◌, ◌/◌, ◌%◌, nat_le, slice_index, codes, decimal}
+use Rattle.std.proofs.lemmas.Bool.{and_from, and_parts, ne_eqb}
+use Rattle.hex.specs.Hex.{encode_lower, encode_with, lower_digits}
+use Rattle.log_law.specs.declared.verdict.Verdict.{Verdict}
+use Rattle.log_law.specs.declared.verdict.Verdict.TheVariants.{Lawful, Broken}
+use Rattle.view_config.specs.declared.nodes.TheConstants.{BOARD}
 use Rattle.list_facts.specs.Lists.{Each}
 use Rattle.list_facts.proofs.Cases.{either}
 use Rattle.rec_id.specs.Identity.{Identity}
@@ -24,6 +29,8 @@ use Rattle.trace_script.specs.Names.{word_text, word_of_node, name_with, node_na
 use Rattle.trace_script.specs.RefusalTexts.{post_reason, begin_reason, trim_reason, suspect_reason, reason, refused_text, no_node_text}
 use Rattle.trace_script.specs.LineTexts.{line_text, lost_text}
 use Rattle.trace_script.specs.EndTexts.{end_text}
+use Rattle.trace_script.specs.VerdictTexts.{letter, lost_verdict_text, verdict_says, verdict_text}
+use Rattle.trace_script.specs.FrameTexts.{end_name, frame_text}
 use Rattle.trace_script.proofs.Lacks.{Lacks, lacks, lacks_append, decimal_lacks}
 
 -- a text in one line
@@ -136,6 +143,45 @@ flat_line holder line h = flat_append (holder_name holder) (codes ": " ++ parted
 
 pub flat_lost : (holder shard : ℕ) → IsFlat (lost_text holder shard)
 flat_lost holder shard = flat_append (holder_name holder) (codes ": lost shard " ++ decimal shard) (flat_holder holder) (flat_decimal shard)
+
+-- verdicts, and frames
+flat_letter : (clause : ℕ) → IsFlat (letter clause ∷ [])
+flat_letter clause =
+    either (λ (n : ℕ). IsFlat (n ∷ [])) (nat_le 1 clause && nat_le clause 9) (96 + clause) 63
+    (λ e. ap (λ (b : Bool). not b && true) (ne_eqb (96 + clause) 10 (omega arith))) (λ e. refl)
+
+flat_verdict_says : (verdict : Verdict) → IsFlat (verdict_says verdict)
+flat_verdict_says Lawful = refl
+flat_verdict_says (Broken clause first second) =
+    flat_append (letter clause ∷ []) (codes " " ++ (decimal first ++ (codes " " ++ decimal second))) (flat_letter clause)
+    (flat_append (decimal first) (codes " " ++ decimal second) (flat_decimal first) (flat_decimal second))
+
+pub flat_verdict : (holder : ℕ) (verdict : Verdict) → IsFlat (verdict_text holder verdict)
+flat_verdict holder verdict = flat_append (holder_name holder) (codes ": " ++ verdict_says verdict) (flat_holder holder) (flat_verdict_says verdict)
+
+pub flat_lost_verdict : (holder shard : ℕ) → IsFlat (lost_verdict_text holder shard)
+flat_lost_verdict holder shard = flat_append (holder_name holder) (codes ": lost shard " ++ decimal shard) (flat_holder holder) (flat_decimal shard)
+
+flat_digit : (digits : List ℕ) (i : ℕ) → IsFlat digits → not (slice_index digits i == 10) ≡ true
+flat_digit [] i h = refl
+flat_digit (digit ∷ digits) zero h = (and_parts (not (digit == 10)) (is_flat digits) h).0
+flat_digit (digit ∷ digits) (suc i) h = flat_digit digits i (and_parts (not (digit == 10)) (is_flat digits) h).1
+
+flat_hex : (bytes : List ℕ) → IsFlat (encode_lower bytes)
+unfolding encode_with
+flat_hex [] = refl
+flat_hex (byte ∷ bytes) =
+    and_from (not (slice_index lower_digits (byte / 16) == 10)) (is_flat (slice_index lower_digits (byte % 16) ∷ encode_lower bytes)) (flat_digit lower_digits (byte / 16) refl)
+    (and_from (not (slice_index lower_digits (byte % 16) == 10)) (is_flat (encode_lower bytes)) (flat_digit lower_digits (byte % 16) refl) (flat_hex bytes))
+
+flat_end_name : (node : ℕ) → IsFlat (end_name node)
+flat_end_name node = either IsFlat (node == BOARD) (codes "board") (node_name node) (λ e. refl) (λ e. flat_node node)
+
+pub flat_frame : (number from to : ℕ) (frame : List ℕ) → IsFlat (frame_text number from to frame)
+flat_frame number from to frame =
+    flat_append (decimal number) (codes ": " ++ (end_name from ++ (codes " to " ++ (end_name to ++ (codes ": " ++ encode_lower frame))))) (flat_decimal number)
+    (flat_append (end_name from) (codes " to " ++ (end_name to ++ (codes ": " ++ encode_lower frame))) (flat_end_name from)
+    (flat_append (end_name to) (codes ": " ++ encode_lower frame) (flat_end_name to) (flat_hex frame)))
 
 pub flat_end : (events messages : ℕ) → IsFlat (end_text events messages)
 flat_end events messages =

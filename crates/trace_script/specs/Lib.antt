@@ -1,10 +1,13 @@
 pub mod Digits
 pub mod Nodes
 pub mod Names
+pub mod Words
 pub mod Script
 pub mod Spelling
 pub mod EntryTexts
 pub mod EventTexts
 pub mod RefusalTexts
 pub mod LineTexts
+pub mod VerdictTexts
+pub mod FrameTexts
 pub mod EndTexts

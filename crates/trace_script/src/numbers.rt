@@ -3,7 +3,7 @@
 ghost use Rattle.std.specs.Prelude.{◌≡◌, ◌≢◌, ◌<◌, ◌≤◌, ◌+◌, ◌-◌, ◌*◌, ◌^◌, ℕ, IfSome, IfNone, decimal};
 ghost use Rattle.std.specs.Str.Parse.{digits_value};
 ghost use Rattle.trace_script.specs.Digits.{AreDigits};
-ghost use Rattle.trace_script.specs.Script.{number_of};
+ghost use Rattle.trace_script.specs.Words.{number_of};
 
 /// The number with one more digit behind it, if `byte` is a digit and the number stays below 2^32.
 fn with_digit(number: u32, byte: u8) -> Option<u32>

@@ -6,13 +6,18 @@ ghost use Rattle.std.specs.Prelude.{◌≡◌, ◌++◌, OnOk, OnErr};
 ghost use Rattle.trace_script.specs.EventTexts.{event_text};
 ghost use Rattle.trace_script.specs.RefusalTexts.{refused_text, no_node_text};
 ghost use Rattle.trace_script.specs.LineTexts.{line_text, lost_text, no_holder_text};
+ghost use Rattle.trace_script.specs.VerdictTexts.{lost_verdict_text, verdict_text};
+ghost use Rattle.trace_script.specs.FrameTexts.{frame_text};
 ghost use Rattle.trace_script.specs.EndTexts.{end_text, bad_line_text, limit_text, read_fault_text};
 
 use crate::NodeWord;
 use crate::event_text::{event_text, text_of};
+use crate::frame_text::frame_text;
 use crate::line_text::{line_text, lost_text};
 use crate::refusal_text::{no_node_text, refused_text};
+use crate::verdict_text::{lost_verdict_text, verdict_text};
 use lazy_msgs::EventRefused;
+use log_law::Verdict;
 use rec_id::{Event, Line, Text};
 use std::alloc::{AllocError, Global};
 
@@ -58,6 +63,47 @@ pub fn print_lost(alloc: Global, holder: u32, shard: u32, out: &mut Text) -> Res
     ensures unchanged { OnErr result (out.new ≡ out.old) }
 {
     out.append(lost_text(alloc, holder, shard)?)
+}
+
+/// What the law says of the line of a holder.
+pub fn print_verdict(
+    alloc: Global,
+    holder: u32,
+    verdict: Verdict,
+    out: &mut Text,
+) -> Result<(), AllocError>
+    ensures printed { OnOk result (out.new ≡ out.old ++ verdict_text holder verdict) }
+    ensures unchanged { OnErr result (out.new ≡ out.old) }
+{
+    out.append(verdict_text(alloc, holder, verdict)?)
+}
+
+/// That the line of a holder is lost, since nobody of `shard` is left, so that the law says nothing of it.
+pub fn print_lost_verdict(
+    alloc: Global,
+    holder: u32,
+    shard: u32,
+    out: &mut Text,
+) -> Result<(), AllocError>
+    ensures printed { OnOk result (out.new ≡ out.old ++ lost_verdict_text holder shard) }
+    ensures unchanged { OnErr result (out.new ≡ out.old) }
+{
+    out.append(lost_verdict_text(alloc, holder, shard)?)
+}
+
+/// The frame of the message with this number.
+pub fn print_frame(
+    alloc: Global,
+    number: u32,
+    from: u32,
+    to: u32,
+    frame: &[u8],
+    out: &mut Text,
+) -> Result<(), AllocError>
+    ensures printed { OnOk result (out.new ≡ out.old ++ frame_text number from to frame.now) }
+    ensures unchanged { OnErr result (out.new ≡ out.old) }
+{
+    out.append(frame_text(alloc, number, from, to, frame)?)
 }
 
 /// That nobody holds a line.
@@ -156,6 +202,21 @@ mod tests {
             &rt,
             &out,
             b"line taken: c0#1=a c0#2! c1#1~line s0: lost shard 1no holder",
+        );
+        out.truncate(0);
+        let broken = Verdict::Broken {
+            clause: 3,
+            first: 1,
+            second: 0,
+        };
+        print_verdict(alloc, 257, broken, &mut out)?;
+        print_verdict(alloc, 256, Verdict::Lawful, &mut out)?;
+        print_lost_verdict(alloc, 257, 1, &mut out)?;
+        print_frame(alloc, 1, 264, 296, &[0, 171], &mut out)?;
+        is_printed(
+            &rt,
+            &out,
+            b"law s0: broken c 1 0law taken: lawfullaw s0: lost shard 1message 1: d0.0 to board: 00ab",
         );
         out.truncate(0);
         print_end(alloc, 7, 6, &mut out)?;
