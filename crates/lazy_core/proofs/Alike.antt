@@ -1,5 +1,5 @@
 -- A node's call keeps its role, and so all nodes stay at their places.
-use Rattle.std.proofs.Common.{◌≡◌, ℕ, zero, suc, List, [], ◌∷◌, Some, refl, subst}
+use Rattle.std.proofs.Common.{◌≡◌, ℕ, zero, suc, List, [], ◌∷◌, Some, subst}
 use Rattle.std.specs.Prelude.{slice_get, slice_set}
 use Rattle.lazy_msgs.specs.declared.input.Input.{Input}
 use Rattle.lazy_core.specs.declared.node_state.NodeState.{NodeState}

@@ -1,5 +1,5 @@
 -- From what a node's own call answers to what it is in an event.
-use Rattle.std.proofs.Common.{◌≡◌, ◌≢◌, ℕ, Option, Some, None, Result, Ok, Err, refl, ap}
+use Rattle.std.proofs.Common.{◌≡◌, ◌≢◌, Option, Some, None, Result, Ok, Err, refl, ap}
 use Rattle.lazy_msgs.specs.declared.refused.BeginRefused.{BeginRefused}
 use Rattle.lazy_msgs.specs.declared.refused.BeginRefused.TheVariants.{Outstanding, Backward, Wide, Over as BeginOver, Memory as BeginMemory}
 use Rattle.lazy_msgs.specs.declared.refused.EventRefused.{EventRefused}
@@ -12,7 +12,7 @@ use Rattle.lazy_msgs.specs.declared.refused.SuspectRefused.{SuspectRefused}
 use Rattle.lazy_msgs.specs.declared.refused.SuspectRefused.TheVariants.{NotInView, LastSeq, LastOfShard, ViewsSpent, Over as SuspectOver, Memory as SuspectMemory}
 use Rattle.lazy_msgs.specs.declared.refused.TrimRefused.{TrimRefused}
 use Rattle.lazy_msgs.specs.declared.refused.TrimRefused.TheVariants.{Outstanding as TrimOutstanding, Ahead, Over as TrimOver, Memory as TrimMemory}
-use Rattle.lazy_msgs.specs.Outbox.{Out, Fits}
+use Rattle.lazy_msgs.specs.Outbox.{Out}
 use Rattle.lazy_msgs.specs.Refused.{event_post_refused, event_step_refused}
 use Rattle.lazy_msgs.specs.Step.{Row, StepsTo}
 use Rattle.lazy_rules.specs.WorldRules.{asking_refused, posting_refused, suspecting_refused, trimming_refused}

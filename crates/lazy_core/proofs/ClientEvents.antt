@@ -1,5 +1,5 @@
 -- Posts, reads and trims are turns of their client.
-use Rattle.std.proofs.Common.{◌≡◌, ◌<◌, ℕ, List, length, Bool, true, false, Option, Some, None, refl, ap, ◌∙◌, arith}
+use Rattle.std.proofs.Common.{◌≡◌, ℕ, List, length, Bool, true, false, Option, Some, None, refl, ap, ◌∙◌, arith}
 use Rattle.std.specs.Prelude.{if◌then◌else◌, nat_lt, slice_get}
 use Rattle.std.proofs.lemmas.Bool.{ltb-false, ltb-true}
 use Rattle.std.proofs.lemmas.Option.{slice_get_past}
@@ -20,7 +20,7 @@ use Rattle.lazy_core.specs.declared.node_state.NodeState.TheVariants.{Client}
 use Rattle.lazy_core.specs.States.{client_there}
 use Rattle.lazy_core.specs.Turning.{IsKnown, IsTurnIn, IsTurnOf, client_refused}
 use Rattle.lazy_core.specs.declared.turns.Turn.{Turn}
-use Rattle.lazy_core.proofs.RoleStates.{HasHalves, appends_did, halves_at, node, node_here, reads_did}
+use Rattle.lazy_core.proofs.RoleStates.{HasHalves, appends_did, halves_at, node_here, reads_did}
 
 -- a client that takes something from outside is there, and isn't crashed
 pub client_free : (there dead : Bool) (x y : EventRefused) → (if there then (if dead then Some x else None) else Some y) ≡ None → (there ≡ true) × (dead ≡ false)

@@ -1,26 +1,21 @@
 -- The step of both halves of a client, part by part.
-use Rattle.std.proofs.Common.{◌≡◌, ◌+◌, ◌≤◌, ℕ, List, [], ◌∷◌, ◌++◌, length, Bool, true, false, Result, Ok, Err, refl, sym, ap, ◌∙◌, subst, arith, length-append}
-use Rattle.std.specs.Prelude.{OnOk, nat_lt, if◌then◌else◌}
+use Rattle.std.proofs.Common.{◌≡◌, ◌≤◌, ℕ, List, [], ◌++◌, length, Bool, true, false, Result, Ok, Err, refl, sym, ap, ◌∙◌, subst, arith, length-append}
+use Rattle.std.specs.Prelude.{OnOk}
 use Rattle.std.proofs.lemmas.List.{append-nil}
-use Rattle.std.proofs.lemmas.Bool.{lt-ltb}
-use Rattle.list_facts.proofs.Cases.{either}
-use Rattle.view_config.specs.declared.config.Config.{Config}
 use Rattle.rec_id.specs.declared.event.Event.{Event}
 use Rattle.lazy_msgs.specs.declared.input.Input.{Input}
 use Rattle.lazy_msgs.specs.declared.msg.Msg.{Msg}
-use Rattle.lazy_msgs.specs.declared.msg.Msg.TheVariants.{ViewIs}
 use Rattle.lazy_msgs.specs.declared.refused.StepRefused.{StepRefused}
 use Rattle.lazy_msgs.specs.declared.refused.StepRefused.TheVariants.{Over}
 use Rattle.lazy_msgs.specs.Outbox.{Out, Fits, cut_to, put_on}
 use Rattle.lazy_msgs.specs.Step.{Row, StepsTo}
-use Rattle.lazy_rules.specs.ClientNode.{ClientNode, asks_view, is_busy, is_appending, is_reading, on_node_tick}
-use Rattle.lazy_rules.specs.ClientRules.{client_step, client_took, in_config, on_client_tick, on_view_is, sending_each}
-use Rattle.lazy_rules.specs.ClientState.{ClientState, OpenAppend}
-use Rattle.lazy_rules.specs.Door.{is_turned_away}
-use Rattle.lazy_rules.specs.ReaderRules.{on_reader_tick, reader_step}
-use Rattle.lazy_rules.specs.ReaderState.{ReaderState, Stage, Idle, Fetching, Probing, Trimming, is_at_work}
-use Rattle.lazy_rules.specs.Rows.{followed, stays}
-use Rattle.lazy_core.specs.ClientParts.{IsGrown, PartlySteps, TellsNothing, appends_step, both_step, parts_step, reads_step}
+use Rattle.lazy_rules.specs.ClientNode.{ClientNode, asks_view}
+use Rattle.lazy_rules.specs.ClientRules.{client_step}
+use Rattle.lazy_rules.specs.ClientState.{ClientState}
+use Rattle.lazy_rules.specs.ReaderRules.{reader_step}
+use Rattle.lazy_rules.specs.ReaderState.{ReaderState}
+use Rattle.lazy_rules.specs.Rows.{followed}
+use Rattle.lazy_core.specs.ClientParts.{PartlySteps, TellsNothing, appends_step, both_step, parts_step, reads_step}
 use Rattle.lazy_core.specs.NodeStep.{halves_of}
 use Rattle.lazy_core.proofs.Outboxes.{both_fit, cut_back_grown, first_fits, not_grown, put_both, second_fits}
 use Rattle.lazy_core.proofs.StepForms.{part_steps}

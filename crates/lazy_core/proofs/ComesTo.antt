@@ -1,6 +1,6 @@
 -- From what a turn is made of to what an event comes to.
-use Rattle.std.proofs.Common.{◌≡◌, ◌≢◌, ℕ, List, Option, Some, None, Result, Ok, Err, refl, sym, subst}
-use Rattle.std.specs.Prelude.{IfErr, IfOk, OnOk, Bool, true, false}
+use Rattle.std.proofs.Common.{◌≡◌, ℕ, Option, Some, None, Result, Ok, Err, refl, sym, subst}
+use Rattle.std.specs.Prelude.{IfErr, IfOk, OnOk, true, false}
 use Rattle.std.specs.Option.{is_none}
 use Rattle.std.specs.Prelude.{is_some}
 use Rattle.lazy_msgs.specs.declared.input.WorldEvent.{WorldEvent}

@@ -1,14 +1,12 @@
 -- A crash: why it is refused, and what it does.
-use Rattle.std.proofs.Common.{◌≡◌, ◌≢◌, ◌≤◌, ◌+◌, ℕ, List, [], ◌∷◌, ◌++◌, length, Option, Some, None, refl, sym, ap, ◌∙◌, subst, arith}
+use Rattle.std.proofs.Common.{◌≡◌, ◌≢◌, ◌≤◌, ℕ, List, [], ◌∷◌, ◌++◌, length, Option, Some, None, refl, sym, ap, ◌∙◌, subst, arith}
 use Rattle.std.proofs.lemmas.List.{append-nil, length-set}
-use Rattle.view_config.specs.Nodes.{node_count}
-use Rattle.view_config.specs.Shape.{Dimensions, node_of}
+use Rattle.view_config.specs.Shape.{node_of}
 use Rattle.view_config.specs.declared.nodes.Node.{Node}
 use Rattle.view_config.specs.declared.nodes.Node.TheVariants.{Client, Controller, Seq, Shard}
 use Rattle.view_config.specs.declared.nodes.TheConstants.{CONTROLLER}
 use Rattle.lazy_msgs.specs.declared.input.WorldEvent.TheVariants.{Crash}
 use Rattle.lazy_msgs.specs.declared.msg.Envelope.{Envelope}
-use Rattle.lazy_msgs.specs.declared.refused.EventRefused.{EventRefused}
 use Rattle.lazy_msgs.specs.declared.refused.EventRefused.TheVariants.{NoNode}
 use Rattle.lazy_rules.specs.WorldRules.{IsWithinLimits, crash_refused_at, crashes, refusal, sent_weight, step_refused_at, step_time}
 use Rattle.lazy_rules.specs.WorldState.{WorldState}
@@ -54,4 +52,4 @@ module _ (w : WorldState) (kept : IsKept w) (node : ℕ) where
   }
 
   pub crash_kept : IsKept (crashes w node)
-  crash_kept = record { timed = length-set w.times node (step_time w node 0) ∙ kept.timed; within = crash_within }
+  crash_kept = record { timed = length-set w.times node (step_time w node 0) ∙ kept.timed; within = crash_within; told = (let same : length (w.history ++ []) ≡ length w.history = ap length (append-nil w.history) in let few = kept.told in omega arith) }

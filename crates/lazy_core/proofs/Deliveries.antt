@@ -6,14 +6,13 @@ use Rattle.list_facts.proofs.Members.{each_in}
 use Rattle.view_config.specs.Shape.{node_of}
 use Rattle.view_config.specs.declared.nodes.Node.{Node}
 use Rattle.view_config.specs.declared.nodes.Node.TheVariants.{Client as ClientNode, Controller, Seq as SeqNode, Shard as ShardNode}
-use Rattle.view_config.specs.declared.nodes.TheConstants.{CONTROLLER}
 use Rattle.lazy_msgs.specs.declared.input.Input.TheVariants.{Take}
 use Rattle.lazy_msgs.specs.declared.input.WorldEvent.TheVariants.{Deliver}
 use Rattle.lazy_msgs.specs.declared.msg.Envelope.{Envelope}
 use Rattle.lazy_msgs.specs.declared.msg.Msg.{Msg}
 use Rattle.lazy_msgs.specs.declared.msg.Msg.TheVariants.{Claim}
 use Rattle.lazy_msgs.specs.declared.refused.EventRefused.TheVariants.{Crashed}
-use Rattle.lazy_rules.specs.ClientNode.{ClientNode as Halves, Half, Appends, Both, Reads, half_of, half_took}
+use Rattle.lazy_rules.specs.ClientNode.{Half, Appends, Both, Reads, half_of, half_took}
 use Rattle.lazy_rules.specs.ClientRules.{client_took}
 use Rattle.lazy_rules.specs.ControlRules.{control_took}
 use Rattle.lazy_rules.specs.ReaderRules.{reader_took}

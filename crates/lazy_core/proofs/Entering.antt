@@ -1,5 +1,5 @@
 -- A step that is entered in the ledger is a step of the world.
-use Rattle.std.proofs.Common.{◌≡◌, ℕ, List, Option, Some, refl, sym, ap, ◌∙◌}
+use Rattle.std.proofs.Common.{◌≡◌, ℕ, List, refl}
 use Rattle.rec_id.specs.declared.event.Event.{Event}
 use Rattle.view_config.specs.declared.nodes.Node.{Node}
 use Rattle.view_config.specs.declared.nodes.Node.TheVariants.{Client as ClientNode, Controller, Seq as SeqNode, Shard as ShardNode}

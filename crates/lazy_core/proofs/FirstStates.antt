@@ -1,5 +1,5 @@
 -- The states at first: each node stands at its place, and they are those of the first world.
-use Rattle.std.proofs.Common.{◌≡◌, ℕ, ◌+◌, ◌*◌, List, [], ◌∷◌, ◌++◌, length, map, replicate, refl, sym, ap, ◌∙◌, subst}
+use Rattle.std.proofs.Common.{◌≡◌, ℕ, ◌+◌, ◌*◌, List, [], ◌∷◌, ◌++◌, length, map, replicate, refl, ap, ◌∙◌, subst}
 use Rattle.std.specs.List.{range_with_len}
 use Rattle.std.proofs.lemmas.List.FromFn.{length-range_with_len}
 use Rattle.view_config.specs.Shape.{Dimensions}
@@ -16,7 +16,7 @@ use Rattle.lazy_core.specs.declared.node_state.NodeState.{NodeState}
 use Rattle.lazy_core.specs.declared.node_state.NodeState.TheVariants.{Seq, Shard, Client, Control}
 use Rattle.lazy_core.specs.LinesOf.{bare}
 use Rattle.lazy_core.specs.Standing.{AreNodes, AreSeqs, AreShards, IsLaid, Standing, first_states, world_of_standing}
-use Rattle.lazy_core.proofs.NodePlaces.{Roles, roles_in, with_client, with_control, with_seq, with_shard}
+use Rattle.lazy_core.proofs.NodePlaces.{roles_in, with_client, with_control, with_seq, with_shard}
 use Rattle.lazy_core.proofs.Seats.{world_with}
 
 module _ (client : ℕ → ClientState) (reader : ℕ → ReaderState) (control : ControlState) (seq : ℕ → SeqState) (shard : ℕ → ShardState) where

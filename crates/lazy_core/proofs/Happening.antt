@@ -1,15 +1,16 @@
 -- From turns to events.
-use Rattle.std.proofs.Common.{◌≡◌, ◌≢◌, ◌+◌, ◌≤◌, ℕ, length, Option, Some, None, Result, Ok, Err, refl, sym, ap, subst, arith}
+use Rattle.std.proofs.Common.{◌≡◌, ◌≢◌, ◌+◌, ◌≤◌, ℕ, length, Option, Some, None, Ok, Err, refl, sym, subst, arith}
 use Rattle.lazy_msgs.specs.declared.input.WorldEvent.{WorldEvent}
 use Rattle.lazy_msgs.specs.declared.refused.EventRefused.{EventRefused}
 use Rattle.lazy_msgs.specs.declared.refused.EventRefused.TheVariants.{Memory, Spent}
-use Rattle.lazy_rules.specs.WorldRules.{IsWithinLimits, after, refusal}
+use Rattle.lazy_rules.specs.WorldRules.{IsWithinLimits, refusal}
 use Rattle.lazy_rules.specs.WorldState.{WorldState}
 use Rattle.lazy_rules.specs.declared.limits.TheConstants.{MESSAGES_LIMIT}
 use Rattle.lazy_core.specs.declared.turns.Turn.{Turn}
-use Rattle.lazy_core.specs.Happens.{Happens, HappensIn, IsWithinRoom, Turns, TurnsWithin}
+use Rattle.lazy_core.specs.Happens.{Happens, HappensIn, IsRoom, IsWithinRoom, Turns, TurnsWithin}
 use Rattle.lazy_core.specs.NodeCall.{Outcome}
-use Rattle.lazy_core.specs.Turning.{IsTurnIn, IsTurnOf, turn_after, turn_refusal}
+use Rattle.lazy_core.specs.Turning.{IsTurnOf, turn_after, turn_refusal}
+use Rattle.lazy_core.proofs.Rooms.{room_of_limits}
 
 module _ (F : Type 0) (next : WorldState) (reason : Option EventRefused) (w : WorldState) where
   -- an event that is refused, for this reason or for want of memory
@@ -47,11 +48,11 @@ module _ (turn : Turn) (w new : WorldState) (outcome : Outcome) where
       (within_limits room w (turn_after w turn is) few) (λ e not_there. absurd (unspent e)) (h is)
 
   -- a turn in all the room that is left
-  pub turned_whole : (left : ℕ) → length w.sent + left ≡ MESSAGES_LIMIT → TurnsWithin left turn w new outcome → Turns turn w new outcome
+  pub turned_whole : (left : ℕ) → IsRoom w left → TurnsWithin left turn w new outcome → Turns turn w new outcome
   turned_whole left is_left h = λ is.
       other_bound (IsWithinRoom left w (turn_after w turn is)) (IsWithinLimits (turn_after w turn is)) (turn_after w turn is) (turn_refusal w turn is) w new outcome
-      (within_limits left w (turn_after w turn is) (omega arith))
-      (λ e not_there fits. not_there (record { in_number = (let number = fits.in_number in omega arith); in_weight = fits.in_weight })) (h is)
+      (within_limits left w (turn_after w turn is) is_left.may)
+      (λ e not_there fits. not_there (room_of_limits left w turn is is_left fits)) (h is)
 
   pub turn_happens : (event : WorldEvent) → IsTurnOf w event turn → Turns turn w new outcome → Happens event w new outcome
   turn_happens event t h =

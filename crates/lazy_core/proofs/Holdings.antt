@@ -1,11 +1,11 @@
 -- Who the holders are and what they have, by the controller's phase.
-use Rattle.std.proofs.Common.{◌≡◌, ℕ, List, [], ◌∷◌, Bool, true, false, Option, Some, None, ap}
+use Rattle.std.proofs.Common.{◌≡◌, ℕ, [], ◌∷◌, Option, Some, None, ap}
 use Rattle.std.specs.List.{filter}
 use Rattle.std.specs.Option.{option_map_or}
 use Rattle.view_config.specs.Nodes.{taken_state}
 use Rattle.view_config.specs.declared.config.Config.{Config}
 use Rattle.lazy_rules.specs.ControlState.{latest_started}
-use Rattle.lazy_rules.specs.Holders.{Holding, holders, holding, holding_of, is_alive, member_holding, seq_numbered, shared_holding}
+use Rattle.lazy_rules.specs.Holders.{holders, holding, holding_of, is_alive, member_holding, seq_numbered, shared_holding}
 use Rattle.lazy_rules.specs.SeqState.{SeqState}
 use Rattle.lazy_rules.specs.WorldState.{WorldState}
 

@@ -1,13 +1,11 @@
 -- What is known of every world that events lead to.
-use Rattle.std.proofs.Common.{◌≡◌, ◌+◌, ◌≤◌, ℕ, List, Some, sym, subst, arith}
-use Rattle.std.specs.Prelude.{slice_get}
+use Rattle.std.proofs.Common.{◌≤◌, List, sym, subst, arith}
 use Rattle.view_config.specs.Shape.{Dimensions, IsShape}
 use Rattle.lazy_msgs.specs.declared.input.Input.{Input}
 use Rattle.lazy_msgs.specs.declared.input.WorldEvent.{WorldEvent}
 use Rattle.lazy_rules.specs.ClientRules.{client_step}
 use Rattle.lazy_rules.specs.ControlRules.{control_step}
 use Rattle.lazy_rules.specs.ReaderRules.{reader_step}
-use Rattle.lazy_rules.specs.ReaderState.{ReaderState}
 use Rattle.lazy_rules.specs.SeqRules.{seq_step}
 use Rattle.lazy_rules.specs.ShardRules.{shard_step}
 use Rattle.lazy_rules.specs.WorldRules.{run}

@@ -11,12 +11,15 @@ pub mod FirstStates
 pub mod Turned
 pub mod Known
 pub mod ReachedWorlds
+pub mod Frames
+pub mod ShortLines
 pub mod Outcomes
 pub mod RoleStates
 pub mod ClientEvents
 pub mod NodeEvents
 pub mod Deliveries
 pub mod Peeks
+pub mod Rooms
 pub mod Happening
 pub mod Crashes
 pub mod Lines

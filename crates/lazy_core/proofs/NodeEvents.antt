@@ -9,15 +9,12 @@ use Rattle.lazy_msgs.specs.declared.input.Input.{Input}
 use Rattle.lazy_msgs.specs.declared.input.Input.TheVariants.{Tick as TickInput, Grace as GraceInput, Suspect as SuspectInput}
 use Rattle.lazy_msgs.specs.declared.input.WorldEvent.TheVariants.{Tick, Grace, Suspect}
 use Rattle.lazy_msgs.specs.Step.{Row}
-use Rattle.lazy_msgs.specs.declared.refused.EventRefused.{EventRefused}
 use Rattle.lazy_msgs.specs.declared.refused.EventRefused.TheVariants.{NoNode}
 use Rattle.lazy_rules.specs.ClientNode.{ClientNode as Halves, client_node_step}
-use Rattle.lazy_rules.specs.ControlRules.{control_step, replaces, suspect_refusal}
+use Rattle.lazy_rules.specs.ControlRules.{control_step}
 use Rattle.lazy_rules.specs.ControlState.{ControlState}
-use Rattle.lazy_rules.specs.SeqRules.{seq_step}
-use Rattle.lazy_rules.specs.ShardRules.{shard_step}
 use Rattle.lazy_rules.specs.WorldState.{WorldState, shard_place}
-use Rattle.lazy_rules.specs.WorldRules.{client_given, client_node_did, control_given, given, seq_did, seq_given, shard_did, shard_given, step_refused_at, stepped, suspect_refused_at, suspected, suspecting_refused, with_client_node}
+use Rattle.lazy_rules.specs.WorldRules.{client_given, client_node_did, given, seq_given, shard_given, step_refused_at, stepped, suspect_refused_at, with_client_node}
 use Rattle.world_facts.proofs.Nodes.{client_is, control_node_of, controller_is, seq_is, shard_is}
 use Rattle.lazy_core.specs.declared.node_state.NodeState.TheVariants.{Client, Control, Seq, Shard}
 use Rattle.lazy_core.specs.declared.turns.Turn.{Turn}

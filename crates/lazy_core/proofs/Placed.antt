@@ -1,5 +1,5 @@
 -- A call of the node at a place, as one of all.
-use Rattle.std.proofs.Common.{◌≡◌, ◌+◌, ◌*◌, ℕ, List, Option, Some, Result, Ok, Err, ap, sym, subst}
+use Rattle.std.proofs.Common.{◌≡◌, ◌+◌, ◌*◌, ℕ, List, Option, Some, Ok, Err, ap, sym, subst}
 use Rattle.std.specs.Prelude.{slice_get, slice_set}
 use Rattle.lazy_msgs.specs.declared.input.Input.{Input}
 use Rattle.lazy_msgs.specs.declared.refused.EventRefused.{EventRefused}

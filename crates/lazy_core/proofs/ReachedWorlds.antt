@@ -1,9 +1,9 @@
 -- Worlds that events lead to: one event more, and the lines of the holders.
-use Rattle.std.proofs.Common.{◌≡◌, ℕ, List, [], ◌∷◌, ◌++◌, ◌+◌, length, length-append, true, None, refl, sym, ap, ◌∙◌, subst}
+use Rattle.std.proofs.Common.{◌≡◌, ℕ, List, [], ◌∷◌, ◌++◌, ◌+◌, length-append, true, None, refl, sym, ap, ◌∙◌, subst}
 use Rattle.std.specs.Prelude.{◌==◌, Result, Ok, Err, IfOk}
 use Rattle.std.proofs.lemmas.Bool.{eqb-true}
 use Rattle.list_facts.specs.Lists.{In}
-use Rattle.list_facts.proofs.Members.{in_passes}
+use Rattle.list_facts.proofs.Members.{each_append, in_passes}
 use Rattle.log_facts.specs.LawfulLines.{AreLinesLawful}
 use Rattle.all_rows.proofs.Everywhere.{lines_lawful}
 use Rattle.all_rows.proofs.Rows.{all_rows}
@@ -16,7 +16,8 @@ use Rattle.lazy_rules.specs.Lines.{line_told}
 use Rattle.lazy_rules.specs.Rows.{has_node}
 use Rattle.lazy_rules.specs.WorldState.{WorldState, first_world}
 use Rattle.lazy_rules.specs.WorldRules.{after, accepted, happened, refusal, run}
-use Rattle.world_facts.specs.Turns.{Turn, ClientTurn, ControlTurn, SeqTurn, ShardTurn, CrashTurn, turned}
+use Rattle.world_facts.specs.SizesOf.{IsOfWords}
+use Rattle.world_facts.specs.Turns.{Meets, Turn, ClientTurn, ControlTurn, SeqTurn, ShardTurn, CrashTurn, turned}
 use Rattle.world_facts.proofs.Runs.{run_append}
 use Rattle.world_facts.proofs.goes.Lost.{turn_of_run}
 use Rattle.lazy_core.specs.declared.line.LineError.{LineError}
@@ -44,27 +45,28 @@ counts w r event allowed =
     next event allowed
 
 -- one event more
-reached_more : (w : WorldState) (event : WorldEvent) (r : IsReached w) → refusal w event ≡ None → (s : IsReached (after w event)) × (s.events ≡ r.events ++ event ∷ [])
-reached_more w event r allowed = (
+reached_more : (w : WorldState) (event : WorldEvent) (r : IsReached w) → Meets IsOfWords event → refusal w event ≡ None → (s : IsReached (after w event)) × (s.events ≡ r.events ++ event ∷ [])
+reached_more w event r asked allowed = (
   record {
     shape = r.shape;
     formed = r.formed;
     events = r.events ++ event ∷ [];
     accepted = accepted_more r.events event (first_world r.shape) r.accepted (subst (λ (x : WorldState). refusal x event ≡ None) r.is allowed);
+    asked = each_append (Meets IsOfWords) r.events (event ∷ []) r.asked (asked, tt);
     counted = counts w r event allowed ∙ ap (λ (n : ℕ). n + 1) r.counted ∙ sym (length-append r.events (event ∷ []));
     is = ap (accepted w event) (sym allowed) ∙ ap (λ (x : WorldState). happened x event) r.is ∙ sym (run_append r.events (event ∷ []) (first_world r.shape));
   },
   refl,
 )
 
-module _ (F : Type 0) (w new : WorldState) (event : WorldEvent) where
+module _ (F : Type 0) (w new : WorldState) (event : WorldEvent) (asked : Meets IsOfWords event) where
   pub reached_after : (outcome : Result (Unit {0}) EventRefused) → IsReached w → HappensIn F (after w event) (refusal w event) w new outcome → IsReached new
-  reached_after (Ok done) r h = subst IsReached (sym h.happened) (reached_more w event r h.allowed).0
+  reached_after (Ok done) r h = subst IsReached (sym h.happened) (reached_more w event r asked h.allowed).0
   reached_after (Err refused) r h = subst IsReached (sym h.unchanged) r
 
   pub appends_after : (outcome : Result (Unit {0}) EventRefused) → HappensIn F (after w event) (refusal w event) w new outcome → Appends event w new outcome
   appends_after (Ok done) h = record {
-    appended = λ r. subst (λ (x : WorldState). (s : IsReached x) × (s.events ≡ r.events ++ event ∷ [])) (sym h.happened) (reached_more w event r h.allowed);
+    appended = λ r. subst (λ (x : WorldState). (s : IsReached x) × (s.events ≡ r.events ++ event ∷ [])) (sym h.happened) (reached_more w event r asked h.allowed);
   }
   appends_after (Err refused) h = record { appended = λ r. tt }
 

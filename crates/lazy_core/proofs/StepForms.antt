@@ -1,10 +1,8 @@
 -- The step of a part of a node is a step of the node.
-use Rattle.std.proofs.Common.{◌≡◌, ◌≤◌, ℕ, List, [], length, Option, Some, None, Result, Ok, Err, refl, ap, arith}
-use Rattle.lazy_msgs.specs.declared.refused.EventRefused.{EventRefused}
+use Rattle.std.proofs.Common.{Result, Ok, Err, refl, ap, arith}
 use Rattle.lazy_msgs.specs.Outbox.{Out}
 use Rattle.lazy_msgs.specs.Step.{Row, StepsTo}
 use Rattle.lazy_rules.specs.Rows.{stays}
-use Rattle.lazy_core.specs.NodeCall.{CallsTo, Outcome}
 use Rattle.lazy_core.proofs.Outboxes.{nothing_put}
 
 -- the row of a part, as one of the whole

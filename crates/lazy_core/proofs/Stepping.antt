@@ -1,6 +1,6 @@
 -- A turn, from the node's call to the world's event.
-use Rattle.std.proofs.Common.{◌≡◌, ◌+◌, ◌<◌, ◌≤◌, ◌^◌, ℕ, List, length, Option, Some, None, Result, Ok, Err, refl, sym, ap, ◌∙◌, subst, arith}
-use Rattle.std.specs.Prelude.{slice_get, slice_index}
+use Rattle.std.proofs.Common.{◌≡◌, ◌+◌, ◌<◌, ◌≤◌, ◌^◌, ℕ, List, length, Option, Some, None, Ok, Err, refl, sym, ap, ◌∙◌, subst, arith}
+use Rattle.std.specs.Prelude.{slice_get}
 use Rattle.std.proofs.lemmas.Option.{slice_get_within}
 use Rattle.rec_id.specs.declared.event.Event.{Event}
 use Rattle.view_config.specs.declared.nodes.Node.{Node}
@@ -143,5 +143,5 @@ module _ (s : Standing) (l : LedgerState) (laid : IsLaid s.shape s.states) (turn
         pub turn_kept : length l.sent + room ≤ MESSAGES_LIMIT → IsKept (with_ledger (world_of_standing t) n)
         turn_kept few =
             subst IsKept (sym entered)
-            (kept_after s l laid turn is room kept few
+            (kept_after s l laid turn is room kept few h.steps.few
             (room_from_fits w (turn_after w turn is) room turn.node (time_of_step l turn.node turn.received) row.sends (after_sent s l laid turn is) light fits_room))

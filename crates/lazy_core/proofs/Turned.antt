@@ -1,5 +1,5 @@
 -- A turn that a node takes at its place, and that is entered in the ledger, is the world's turn.
-use Rattle.std.proofs.Common.{◌≡◌, ℕ, ◌+◌, ◌<◌, ◌≤◌, ◌^◌, List, ◌++◌, length, Option, Some, refl, sym, ap, ◌∙◌, subst, arith}
+use Rattle.std.proofs.Common.{◌≡◌, ℕ, ◌+◌, ◌*◌, ◌<◌, ◌≤◌, List, ◌++◌, length, length-append, Some, sym, ap, ◌∙◌, subst, arith}
 use Rattle.std.specs.Prelude.{slice_get, slice_index, slice_set}
 use Rattle.std.specs.Option.{option_map}
 use Rattle.std.proofs.lemmas.List.{length-set}
@@ -21,7 +21,7 @@ use Rattle.lazy_core.specs.Happens.{IsWithinRoom}
 use Rattle.lazy_core.specs.Ledger.{Adds, Keeps, LedgerState, time_of_step}
 use Rattle.lazy_core.specs.NodeCall.{node_call}
 use Rattle.lazy_core.specs.Standing.{IsLaid, Standing, place_at, place_of, with_state, world_of_standing}
-use Rattle.lazy_core.specs.States.{set_state, state_at}
+use Rattle.lazy_core.specs.States.{set_state}
 use Rattle.lazy_core.specs.Turning.{IsKnown, IsTurnIn, turn_after}
 use Rattle.lazy_core.specs.WorldView.{IsKept}
 use Rattle.lazy_core.proofs.Entering.{entered_world, set_with, state_with, with_ledger}
@@ -88,10 +88,23 @@ module _ (s : Standing) (l : LedgerState) (laid : IsLaid s.shape s.states) (turn
   after_times : (turn_after w turn is).times ≡ slice_set l.times turn.node (time_of_step l turn.node turn.received)
   after_times = ap (λ (x : WorldState). (stepped x turn.node turn.received row.sends row.events).times) (set_with (world_of_standing s) l is.role row.next)
 
-  pub kept_after : (room : ℕ) → IsKept w → length l.sent + room ≤ MESSAGES_LIMIT → IsWithinRoom room w (turn_after w turn is) → IsKept (turn_after w turn is)
-  kept_after room kept few within = record {
+  after_history : (turn_after w turn is).history ≡ l.history ++ row.events
+  after_history = ap (λ (x : WorldState). (stepped x turn.node turn.received row.sends row.events).history) (set_with (world_of_standing s) l is.role row.next)
+
+  after_events : (turn_after w turn is).events ≡ l.events + 1
+  after_events = ap (λ (x : WorldState). (stepped x turn.node turn.received row.sends row.events).events) (set_with (world_of_standing s) l is.role row.next)
+
+  few_after : length row.events ≤ 2 → length l.history ≤ 2 * l.events → length (turn_after w turn is).history ≤ 2 * (turn_after w turn is).events
+  few_after two few =
+      let history : length (turn_after w turn is).history ≡ length l.history + length row.events = ap length after_history ∙ length-append l.history row.events in
+      let events = after_events in
+      omega arith
+
+  pub kept_after : (room : ℕ) → IsKept w → length l.sent + room ≤ MESSAGES_LIMIT → length row.events ≤ 2 → IsWithinRoom room w (turn_after w turn is) → IsKept (turn_after w turn is)
+  kept_after room kept few two within = record {
     timed = ap length after_times ∙ length-set l.times turn.node (time_of_step l turn.node turn.received) ∙ kept.timed;
     within = record { in_number = (let number = within.in_number in omega arith); in_weight = within.in_weight };
+    told = few_after two kept.told;
   }
 
   -- what entering it needs

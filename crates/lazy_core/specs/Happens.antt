@@ -1,10 +1,11 @@
-use Rattle.std.specs.Prelude.{◌≡◌, ◌≢◌, ℕ, ◌+◌, ◌≤◌, length, Option, Some, None, Err, OnOk, OnErr, IfErr}
+use Rattle.std.specs.Prelude.{◌≡◌, ◌≢◌, ℕ, ◌+◌, ◌*◌, ◌≤◌, ◌<◌, ◌⊎◌, length, Option, Some, None, Err, OnOk, OnErr, IfErr}
 use Rattle.lazy_msgs.specs.declared.input.WorldEvent.{WorldEvent}
 use Rattle.lazy_msgs.specs.declared.refused.EventRefused.{EventRefused}
 use Rattle.lazy_msgs.specs.declared.refused.EventRefused.TheVariants.{Spent, Memory}
 use Rattle.lazy_rules.specs.WorldRules.{IsWithinLimits, after, refusal, sent_weight}
 use Rattle.lazy_rules.specs.WorldState.{WorldState}
-use Rattle.lazy_rules.specs.declared.limits.TheConstants.{WEIGHT_LIMIT}
+use Rattle.lazy_msgs.specs.declared.limits.TheConstants.{MESSAGE_WEIGHT}
+use Rattle.lazy_rules.specs.declared.limits.TheConstants.{MESSAGES_LIMIT, WEIGHT_LIMIT}
 use Rattle.lazy_core.specs.declared.turns.Turn.{Turn}
 use Rattle.lazy_core.specs.NodeCall.{Outcome}
 use Rattle.lazy_core.specs.Turning.{IsTurnIn, turn_after, turn_refusal}
@@ -13,6 +14,11 @@ use Rattle.lazy_core.specs.Turning.{IsTurnIn, turn_after, turn_refusal}
 pub record IsWithinRoom (room : ℕ) (before next : WorldState) : Type 0 where
   pub in_number : length next.sent ≤ length before.sent + room
   pub in_weight : sent_weight next.sent ≤ WEIGHT_LIMIT
+
+-- so many messages more may be sent, and whatever world may be behind this one sent no more than these
+pub record IsRoom (w : WorldState) (room : ℕ) : Type 0 where
+  pub may : length w.sent + room ≤ MESSAGES_LIMIT
+  pub most : (length w.sent + room ≡ MESSAGES_LIMIT) ⊎ (WEIGHT_LIMIT < sent_weight w.sent + MESSAGE_WEIGHT * (room + 1))
 
 -- an event happened as the rules give it, or was refused and left all as it was: for the reason that
 -- the rules give, or as spent where it would have sent more than `Fits` lets it

@@ -1,4 +1,4 @@
-use Rattle.std.specs.Prelude.{◌≡◌, ◌≢◌, ◌+◌, ◌<◌, ◌^◌, ℕ, length, Option, Some, None, Result, Err, OnOk, IfErr}
+use Rattle.std.specs.Prelude.{◌≡◌, ◌≢◌, ◌+◌, ◌<◌, ◌^◌, length, Option, Some, None, Result, Err, OnOk, IfErr}
 use Rattle.view_config.specs.Shape.{Dimensions}
 use Rattle.view_config.specs.declared.edition.Edition.{Edition}
 use Rattle.lazy_msgs.specs.declared.input.Input.{Input}

@@ -11,6 +11,6 @@ use Rattle.lazy_rules.specs.WorldState.{WorldState}
 abbrev pub peek_input : WorldState → ℕ → ℕ → Envelope → Input
 peek_input w from to envelope = Peek (claimed envelope.msg) envelope.time (envelope.from - FIRST_SHARD) from (ids_at w from to (node_of w.shape envelope.from))
 
-abbrev pub IsPeeked : WorldState → ℕ → ℕ → Option Envelope → Input → Type 0
-IsPeeked w from to None input = ⊥
-IsPeeked w from to (Some envelope) input = input ≡ peek_input w from to envelope
+abbrev pub IsGiven : WorldState → ℕ → ℕ → Option Envelope → Input → Type 0
+IsGiven w from to None input = ⊥
+IsGiven w from to (Some envelope) input = input ≡ peek_input w from to envelope

@@ -111,11 +111,25 @@ impl Ledger {
         self.history.as_slice()
     }
 
+    /// What was told, taken out of the ledger.
+    pub(crate) fn into_history(self) -> EventList
+        ensures { result ≡ self.history }
+    {
+        EventList::from_vec(self.history)
+    }
+
     /// How many messages were sent.
     pub(crate) fn sent(&self) -> usize
         ensures { result ≡ length self.now.sent }
     {
         self.sent.len()
+    }
+
+    /// How much more the messages may weigh that are sent.
+    pub(crate) fn weight_left(&self) -> u64
+        ensures { result + sent_weight self.now.sent ≡ WEIGHT_LIMIT }
+    {
+        WEIGHT_LIMIT - self.weight
     }
 
     /// How many events of the world were accepted.

@@ -1,9 +1,10 @@
 //! All nodes of a log, every message ever sent, and what the clients did and were told. Which of these are worlds
 //! is said in `world.rt`.
 
-ghost use Rattle.std.specs.Prelude.{◌≡◌, ◌-◌, ◌≤◌, ◌+◌, length, IfOk, option_copied};
+ghost use Rattle.std.specs.Prelude.{◌≡◌, ◌≤◌, ◌*◌, length, IfOk, option_copied};
 ghost use Rattle.lazy_rules.specs.WorldRules.{message_at};
 ghost use Rattle.lazy_rules.specs.WorldState.{WorldState, first_world};
+ghost use Rattle.lazy_core.specs.Happens.{IsRoom};
 ghost use Rattle.lazy_core.specs.LinesOf.{bare};
 ghost use Rattle.lazy_core.specs.Standing.{world_of_standing};
 
@@ -11,10 +12,13 @@ use crate::ledger::Ledger;
 use crate::snapshot::Snapshot;
 use lazy_msgs::Envelope;
 use lazy_rules::MESSAGES_LIMIT;
-use rec_id::Event;
+use rec_id::{Event, EventList};
 use std::alloc::{AllocError, Global};
 use std::marker::Model;
 use view_config::Shape;
+
+/// What a message weighs at least.
+const LEAST_WEIGHT: u64 = 64;
 
 /// The nodes of a shape and all that happened among them.
 #[derive(Drop)]
@@ -59,7 +63,8 @@ impl Nodes {
 
     /// What the clients did and were told, in order.
     pub(crate) fn history(&self) -> &[Event]
-        ensures { result.now ≡ self.now.history }
+        ensures history { result.now ≡ self.now.history }
+        ensures few { length self.now.history ≤ 2 * self.now.events }
     {
         self.ledger.history()
     }
@@ -86,10 +91,23 @@ impl Nodes {
         self.ledger.message(k)
     }
 
-    /// How many messages may still be sent.
+    /// How many messages may still be sent, by their number and by what messages weigh at least.
     pub(crate) fn room(&self) -> u32
-        ensures { length self.now.sent + result ≡ MESSAGES_LIMIT }
+        ensures { IsRoom self.now result }
     {
-        MESSAGES_LIMIT - self.sent()
+        let by_number = MESSAGES_LIMIT - self.sent();
+        let by_weight = self.ledger.weight_left() / LEAST_WEIGHT;
+        if by_weight < by_number as u64 {
+            by_weight as u32
+        } else {
+            by_number
+        }
+    }
+
+    /// What clients did and were told, taken out of the world.
+    pub(crate) fn into_history(self) -> EventList
+        ensures { result ≡ self.history }
+    {
+        self.ledger.into_history()
     }
 }

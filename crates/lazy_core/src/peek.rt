@@ -3,7 +3,7 @@
 ghost use Rattle.std.specs.Prelude.{◌≡◌, ◌≢◌, ◌-◌, None, Some, IfOk, IfErr, OnOk, slice_range};
 ghost use Rattle.view_config.specs.Shape.{node_of};
 ghost use Rattle.lazy_rules.specs.WorldRules.{ids_at, ids_in, message_at, peek_refused, range_refused};
-ghost use Rattle.lazy_core.specs.Peeking.{IsPeeked};
+ghost use Rattle.lazy_core.specs.Peeking.{IsGiven};
 
 use crate::nodes::Nodes;
 use lazy_msgs::{EventRefused, Input, Msg};
@@ -54,7 +54,7 @@ impl Nodes {
 
     /// What client `c` is given that looks up the places `[from, to)` by message `k`.
     pub(crate) fn peeked(&self, c: u32, k: u32, from: u32, to: u32) -> Result<Input, EventRefused>
-        ensures given { IfOk result (IsPeeked self.now from to (message_at self.now k)) }
+        ensures given { IfOk result (IsGiven self.now from to (message_at self.now k)) }
         ensures allowed { OnOk result (peek_refused self.now c k from to (message_at self.now k) ≡ None) }
         ensures refused { IfErr result (λ e. e ≢ EventRefused.Memory → peek_refused self.now c k from to (message_at self.now k) ≡ Some e) }
         ensures unspent { IfErr result (λ e. e ≢ EventRefused.Spent) }

@@ -136,14 +136,12 @@ fn a_survivor_decides(rt: HostRuntime) -> Result<(), Fail> {
     flow(alloc, &mut world, 19, 21)?;
     assert_eq!(rt; (world.events(), world.sent()), (19, 20));
     let mut trail = Trail::new(alloc);
-    trail.fill(alloc, &world)?;
-    assert_eq!(rt; (trail.lines.len(), trail.history.len()), (1, 4));
-    assert_eq!(rt;
-        (trail.lines.at(0).holder, trail.lines.at(0).line.len()),
-        (258, 1)
-    );
+    assert_eq!(rt; world.line(258)?.len(), 1);
     happen(&rt, alloc, &mut world, &[(Act::Crash(264), None)])?;
     assert_eq!(rt; world.line(258).err(), Some(LineError::Lost(0)));
+    let lines = world.lines(alloc)?;
+    trail.fill(world, lines);
+    assert_eq!(rt; (trail.lines.len(), trail.history.len()), (0, 4));
     Ok(())
 }
 

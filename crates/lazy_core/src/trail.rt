@@ -3,7 +3,7 @@
 //!
 //! A trail only holds what its maker puts in it.
 
-ghost use Rattle.std.specs.Prelude.{◌≡◌, ◌++◌, [], true, IfOk, OnOk, OnErr};
+ghost use Rattle.std.specs.Prelude.{◌≡◌, ◌++◌, [], true, IfOk, OnOk};
 ghost use Rattle.std.specs.List.{flat_map};
 ghost use Rattle.lazy_rules.specs.Holders.{holders};
 ghost use Rattle.lazy_rules.specs.Rows.{has_node};
@@ -13,7 +13,7 @@ use crate::line::LineError;
 use crate::world::World;
 use lazy_msgs::DiaryList;
 use plain_lists::Sequence;
-use rec_id::{Event, EventList, Line, Words};
+use rec_id::{EventList, Line, Words};
 use std::alloc::{AllocError, Global};
 
 /// The line of a holder, by the holder's number.
@@ -50,28 +50,16 @@ impl Trail {
         }
     }
 
-    /// Fills in what is left of a world: its history, and the line of each holder whose line isn't
-    /// lost, in the order of the holders. Where there is no memory for all of it, nothing is filled in.
-    pub fn fill(&mut self, alloc: Global, world: &World) -> Result<(), AllocError>
-        ensures filled { OnOk result (IsFilled world.now self.old self.new) }
-        ensures unfilled { OnErr result (self.new ≡ self.old) }
+    /// Fills in what is left of a world that is over: its history, and these lines of its holders. It takes no
+    /// memory.
+    pub fn fill(&mut self, world: World, lines: HolderLines)
+        requires lines { lines ≡ spared_lines world }
+        requires lawful { AreLawful world.history lines }
+        ensures { IsFilled world self.old self.new }
     {
-        let history = copy_events(alloc, world.history())?;
-        let lines = lines_of(alloc, world)?;
-        self.history = history;
+        self.history = world.into_history();
         self.lines = lines;
-        Ok(())
     }
-}
-
-fn copy_events(alloc: Global, events: &[Event]) -> Result<EventList, AllocError>
-    ensures { IfOk result (λ made. made ≡ events.now) }
-{
-    let mut made = Sequence::new(alloc);
-    for event in events {
-        made.push(event.copy()?)?;
-    }
-    Ok(made)
 }
 
 /// Adds the line of one holder, if it isn't lost.
@@ -101,10 +89,13 @@ fn lines_at(alloc: Global, world: &World, nodes: &[u32]) -> Result<HolderLines, 
     Ok(lines)
 }
 
-fn lines_of(alloc: Global, world: &World) -> Result<HolderLines, AllocError>
-    ensures lines { IfOk result (λ lines. lines ≡ spared_lines world.now) }
-    ensures lawful { IfOk result (λ lines. AreLawful world.now.history lines) }
-{
-    let holders = world.holders()?;
-    lines_at(alloc, world, holders.as_slice())
+impl World {
+    /// The line of each holder whose line isn't lost, in the order of the holders.
+    pub fn lines(&self, alloc: Global) -> Result<HolderLines, AllocError>
+        ensures lines { IfOk result (λ lines. lines ≡ spared_lines self.now) }
+        ensures lawful { IfOk result (λ lines. AreLawful self.now.history lines) }
+    {
+        let holders = self.holders()?;
+        lines_at(alloc, self, holders.as_slice())
+    }
 }

@@ -1,10 +1,13 @@
 //! A world: all nodes of a log, every message ever sent, and what the clients did and were told, as some list of
 //! events led to it.
 
-ghost use Rattle.std.specs.Prelude.{◌≡◌, ◌+◌, ◌<◌, ◌≤◌, ◌^◌, length, IfOk, option_copied};
+ghost use Rattle.std.specs.Prelude.{◌≡◌, ◌+◌, ◌*◌, ◌<◌, ◌≤◌, ◌^◌, length, IfOk, IfSome, option_copied};
+ghost use Rattle.lazy_msgs.specs.FrameLimits.{Fits};
 ghost use Rattle.lazy_rules.specs.Holders.{holders};
 ghost use Rattle.lazy_rules.specs.WorldRules.{message_at};
 ghost use Rattle.lazy_rules.specs.WorldState.{first_world};
+ghost use Rattle.world_facts.specs.SizesOf.{IsOfWords};
+ghost use Rattle.world_facts.specs.Turns.{Meets};
 ghost use Rattle.lazy_core.specs.Happens.{Happens};
 ghost use Rattle.lazy_core.specs.LinesOf.{IsLawfulLine, TellsLine, bare};
 ghost use Rattle.lazy_core.specs.Reached.{Appends, IsReached};
@@ -15,7 +18,7 @@ use crate::nodes::Nodes;
 use crate::snapshot::Snapshot;
 use lazy_msgs::{Envelope, EventRefused, WorldEvent};
 use lazy_rules::MESSAGES_LIMIT;
-use rec_id::{Event, Line};
+use rec_id::{Ask, Event, EventList, Line};
 use std::alloc::{AllocError, Global};
 use std::marker::Model;
 use view_config::{NodeList, Shape};
@@ -38,6 +41,21 @@ impl Model for World {
     ghost invariant = { λ world. IsReached world.nodes };
 }
 
+/// A law, and no code: whoever reads asks with numbers of 32 bits.
+fn asked_in_words(event: &WorldEvent)
+    ensures { Meets IsOfWords event.now }
+{
+    match event {
+        WorldEvent::Ask(_, Ask::Range { from, to }) => {
+            let _words = (*from, *to);
+        }
+        WorldEvent::Ask(_, Ask::Tail { from }) => {
+            let _word = *from;
+        }
+        _ => {}
+    }
+}
+
 impl World {
     /// The world of a shape at first: no message, no crash, nothing told.
     pub fn new(alloc: Global, shape: &Shape) -> Result<World, AllocError>
@@ -55,6 +73,7 @@ impl World {
         ensures appends { Appends event.now self.old self.new result }
         ensures happens { Happens event.now self.old self.new result }
     {
+        asked_in_words(event);
         self.nodes.event(event)
     }
 
@@ -64,11 +83,19 @@ impl World {
         self.nodes.shape()
     }
 
-    /// What the clients did and were told, in order.
+    /// What the clients did and were told, in order: no more than two for each event.
     pub fn history(&self) -> &[Event]
-        ensures { result.now ≡ self.now.history }
+        ensures history { result.now ≡ self.now.history }
+        ensures few { length self.now.history ≤ 2 * self.now.events }
     {
         self.nodes.history()
+    }
+
+    /// What the clients did and were told, taken out of the world.
+    pub fn into_history(self) -> EventList
+        ensures { result ≡ self.history }
+    {
+        self.nodes.into_history()
     }
 
     /// How many messages were sent.
@@ -87,10 +114,12 @@ impl World {
         self.nodes.events()
     }
 
-    /// Message `k`, counted from 1 in the order of sending.
+    /// Message `k`, counted from 1 in the order of sending. It has a frame in the shape's edition.
     pub fn message(&self, k: u32) -> Option<&Envelope>
-        ensures { option_copied result ≡ message_at self.now k }
+        ensures message { option_copied result ≡ message_at self.now k }
+        ensures framed { IfSome (option_copied result) (Fits self.now.shape.edition) }
     {
+        let _counted = self.nodes.events();
         self.nodes.message(k)
     }
 
@@ -113,6 +142,7 @@ impl World {
     pub fn line(&self, holder: u32) -> Result<Line, LineError>
         ensures told { TellsLine self.now holder result }
         ensures lawful { IsLawfulLine self.now holder result }
+        ensures short { IfOk result (λ line. length line < 2 ^ 17) }
     {
         self.nodes.snapshot().line(holder)
     }

@@ -1,7 +1,7 @@
 -- Whole traces, computed: the output, what they end with, and the history and the holders' lines then. The scripts
 -- are those of the folder `examples`. A byte 97 is the letter a, 98 the letter b; node 257 is `s0`.
-use Rattle.std.proofs.Common.{◌≡◌, ℕ, List, [], ◌∷◌, ◌++◌, map, codes, refl}
-use Rattle.std.specs.Prelude.{Result, Ok, Err}
+use Rattle.std.proofs.Common.{◌≡◌, ℕ, List, [], ◌∷◌, map, codes, refl}
+use Rattle.std.specs.Prelude.{Result, Ok}
 use Rattle.std.specs.Fmt.{digits}
 use Rattle.rec_id.specs.Identity.{Identity}
 use Rattle.rec_id.specs.declared.entry.Entry.{Entry}
@@ -17,7 +17,7 @@ use Rattle.lazy_rules.specs.Holders.{holders}
 use Rattle.lazy_rules.specs.Lines.{line_told}
 use Rattle.lazy_rules.specs.WorldState.{WorldState, first_world}
 use Rattle.lazy_rules.specs.WorldRules.{run}
-use Rattle.lazylog_trace.specs.Apply.{with_newline}
+use Rattle.lazylog_trace.specs.Shown.{with_newline}
 use Rattle.lazylog_trace.specs.Output.{end_of, first_progress, out, printed, script_output}
 
 -- lines, each with its newline

@@ -3,6 +3,7 @@ pub mod Events
 pub mod AppliedEvents
 pub mod Limits
 pub mod Texts
+pub mod Actions
 pub mod PlainEvents
 pub mod PlainHistory
 pub mod OwnTexts

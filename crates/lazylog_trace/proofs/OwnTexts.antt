@@ -14,17 +14,21 @@ use Rattle.rec_id.specs.declared.entry.Entry.{Entry}
 use Rattle.rec_id.specs.declared.event.Event.{Event}
 use Rattle.rec_id.specs.declared.event.Event.TheVariants.{Invoke, Acked, Rejected, Begin, Answer, Seen, TrimAsk, TrimDone, Trimmed}
 use Rattle.lazy_msgs.specs.declared.refused.EventRefused.{EventRefused}
-use Rattle.lazy_msgs.specs.declared.input.WorldEvent.TheVariants.{Post, Deliver as DeliverEvent}
+use Rattle.lazy_msgs.specs.declared.msg.Envelope.{Envelope}
+use Rattle.view_config.specs.declared.edition.Edition.{Edition}
 use Rattle.lazy_rules.specs.Holders.{holders}
 use Rattle.lazy_rules.specs.Lines.{line_told}
 use Rattle.lazy_rules.specs.WorldState.{WorldState}
-use Rattle.lazy_rules.specs.WorldRules.{refusal}
+use Rattle.lazy_rules.specs.WorldRules.{message_at, refusal}
 use Rattle.trace_script.specs.EventTexts.{event_text}
-use Rattle.trace_script.specs.declared.node_word.NodeWord.{NodeWord}
-use Rattle.trace_script.specs.Nodes.{node_of_word}
 use Rattle.trace_script.specs.declared.command.Command.{Command}
-use Rattle.trace_script.specs.declared.command.Command.TheVariants.{Nothing, Append, Deliver, Flow, Lines}
-use Rattle.lazylog_trace.specs.Apply.{with_newline, event_texts, refusal_texts, post_texts, held_text, holder_text, holder_texts, own_texts}
+use Rattle.lazylog_trace.specs.declared.action.Asked.{Asked}
+use Rattle.lazylog_trace.specs.declared.action.Asked.TheVariants.{Line, Verdict}
+use Rattle.lazylog_trace.specs.declared.action.Action.{Action}
+use Rattle.lazylog_trace.specs.declared.action.Action.TheVariants.{Nothing, Event as EventAction, NoNode, Deliveries, Holders, Message}
+use Rattle.lazylog_trace.specs.Actions.{action_of}
+use Rattle.lazylog_trace.specs.Apply.{action_texts, refusal_texts, own_texts}
+use Rattle.lazylog_trace.specs.Shown.{event_texts, frame_shown, holder_said, holder_text, holder_texts, with_newline}
 use Rattle.lazylog_trace.specs.Output.{printed}
 use Rattle.lazylog_trace.specs.Printed.{is_event_text}
 
@@ -69,28 +73,34 @@ refusals_other : (refused : Option EventRefused) → Each IsOther (refusal_texts
 refusals_other None = tt
 refusals_other (Some refused) = (refl, tt)
 
-held_other : (holder : ℕ) (line : Result (List Entry) ℕ) → IsOther (with_newline (held_text holder line))
-held_other holder (Ok line) = refl
-held_other holder (Err shard) = refl
+said_other : (asked : Asked) (holder : ℕ) (line : Result (List Entry) ℕ) → IsOther (with_newline (holder_said asked holder line))
+said_other Line holder (Ok line) = refl
+said_other Line holder (Err shard) = refl
+said_other Verdict holder (Ok line) = refl
+said_other Verdict holder (Err shard) = refl
 
-each_holder : (w : WorldState) (nodes : List ℕ) → Each IsOther (map (holder_text w) nodes)
-each_holder w [] = tt
-each_holder w (holder ∷ others) = (held_other holder (line_told w holder), each_holder w others)
+each_holder : (w : WorldState) (asked : Asked) (nodes : List ℕ) → Each IsOther (map (holder_text w asked) nodes)
+each_holder w asked [] = tt
+each_holder w asked (holder ∷ others) = (said_other asked holder (line_told w holder), each_holder w asked others)
 
-holders_other : (w : WorldState) (nodes : List ℕ) → Each IsOther (holder_texts w nodes)
-holders_other w [] = (refl, tt)
-holders_other w (holder ∷ others) = each_holder w (holder ∷ others)
+holders_other : (w : WorldState) (asked : Asked) (nodes : List ℕ) → Each IsOther (holder_texts w asked nodes)
+holders_other w asked [] = (refl, tt)
+holders_other w asked (holder ∷ others) = each_holder w asked (holder ∷ others)
 
-post_other : (w : WorldState) (word : NodeWord) (bytes : List ℕ) (node : Option ℕ) → Each IsOther (post_texts w word bytes node)
-post_other w word bytes None = (refl, tt)
-post_other w word bytes (Some node) = refusals_other (refusal w (Post node bytes))
+message_other : (edition : Edition) (number : ℕ) (message : Option Envelope) → IsOther (with_newline (frame_shown edition number message))
+message_other edition number None = refl
+message_other edition number (Some message) = refl
+
+action_other : (w : WorldState) (action : Action) → Each IsOther (action_texts w action)
+action_other w Nothing = tt
+action_other w (EventAction event) = refusals_other (refusal w event)
+action_other w (NoNode word) = (refl, tt)
+action_other w (Deliveries first count) = tt
+action_other w (Holders asked) = holders_other w asked (holders w)
+action_other w (Message number) = (message_other w.shape.edition number (message_at w number), tt)
 
 own_other : (w : WorldState) (command : Command) → Each IsOther (own_texts w command)
-own_other w Nothing = tt
-own_other w (Append client bytes) = post_other w client bytes (node_of_word client)
-own_other w (Deliver message) = refusals_other (refusal w (DeliverEvent message))
-own_other w (Flow first last) = tt
-own_other w Lines = holders_other w (holders w)
+own_other w command = action_other w (action_of command)
 
 others_none : (lines : List (List ℕ)) → Each IsOther lines → filter is_event_text lines ≡ []
 others_none [] h = refl

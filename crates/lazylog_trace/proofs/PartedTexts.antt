@@ -13,30 +13,38 @@ use Rattle.rec_id.specs.declared.event.Ask.TheVariants.{Range, Tail}
 use Rattle.rec_id.specs.declared.entry.Entry.{Entry}
 use Rattle.rec_id.specs.declared.event.Event.{Event}
 use Rattle.rec_id.specs.declared.event.Event.TheVariants.{Invoke, Acked, Rejected, Begin, Answer, Seen, TrimAsk, TrimDone, Trimmed}
+use Rattle.view_config.specs.declared.edition.Edition.{Edition}
 use Rattle.view_config.specs.Shape.{Dimensions, IsShape}
+use Rattle.log_law.specs.declared.verdict.Verdict.TheVariants.{Lawful}
+use Rattle.lazy_msgs.specs.Frame.{frame}
+use Rattle.lazy_msgs.specs.declared.refused.EventRefused.TheVariants.{NoMessage}
 use Rattle.io_edges.specs.declared.status.Status.{Status}
 use Rattle.io_edges.specs.declared.status.Status.TheVariants.{Done, Usage, BadLine, ReadFault, WriteFault, Memory, Limit}
 use Rattle.lazy_msgs.specs.declared.input.WorldEvent.{WorldEvent}
-use Rattle.lazy_msgs.specs.declared.input.WorldEvent.TheVariants.{Post, Deliver as DeliverEvent}
+use Rattle.lazy_msgs.specs.declared.msg.Envelope.{Envelope}
 use Rattle.lazy_msgs.specs.declared.refused.EventRefused.{EventRefused}
 use Rattle.lazy_rules.specs.Holders.{holders}
 use Rattle.lazy_rules.specs.Lines.{line_told}
 use Rattle.lazy_rules.specs.WorldState.{WorldState, first_world}
-use Rattle.lazy_rules.specs.WorldRules.{refusal, run}
-use Rattle.trace_script.specs.declared.node_word.NodeWord.{NodeWord}
-use Rattle.trace_script.specs.Nodes.{node_of_word}
+use Rattle.lazy_rules.specs.WorldRules.{message_at, refusal, run}
 use Rattle.trace_script.specs.EntryTexts.{id_text, entry_text, parted, spaced}
 use Rattle.trace_script.specs.EventTexts.{answer_text, ask_text, event_text, floor_text, read_text, tail_text}
 use Rattle.trace_script.specs.RefusalTexts.{no_node_text, refused_text}
 use Rattle.trace_script.specs.LineTexts.{line_text, lost_text, no_holder_text}
 use Rattle.trace_script.specs.EndTexts.{bad_line_text, end_text, limit_text, read_fault_text}
-use Rattle.trace_script.specs.declared.command.Command.{Command}
-use Rattle.trace_script.specs.declared.command.Command.TheVariants.{Nothing, Append, Deliver, Flow, Lines}
-use Rattle.lazylog_trace.specs.Apply.{with_newline, event_texts, refusal_texts, post_texts, held_text, holder_text, holder_texts, own_texts}
+use Rattle.trace_script.specs.FrameTexts.{frame_text}
+use Rattle.trace_script.specs.VerdictTexts.{lost_verdict_text, verdict_text}
+use Rattle.lazylog_trace.specs.declared.action.Asked.{Asked}
+use Rattle.lazylog_trace.specs.declared.action.Asked.TheVariants.{Line, Verdict}
+use Rattle.lazylog_trace.specs.declared.action.Action.{Action}
+use Rattle.lazylog_trace.specs.declared.action.Action.TheVariants.{Nothing, Event as EventAction, NoNode, Deliveries, Holders, Message}
+use Rattle.lazylog_trace.specs.Actions.{action_of}
+use Rattle.lazylog_trace.specs.Apply.{action_texts, refusal_texts, own_texts}
+use Rattle.lazylog_trace.specs.Shown.{event_texts, frame_shown, holder_said, holder_text, holder_texts, with_newline}
 use Rattle.lazylog_trace.specs.Output.{Progress, closing, printed}
 use Rattle.lazylog_trace.specs.Printed.{Prints, is_event_text, texts_from, texts_of}
 use Rattle.lazylog_trace.proofs.PlainHistory.{IsClean, history_clean, line_flat}
-use Rattle.trace_script.proofs.Newlines.{IsFlat, IsFlatEntry, flat_append, flat_decimal, flat_end, flat_id, flat_line, flat_lost, flat_no_node, flat_parted, flat_refused, is_flat}
+use Rattle.trace_script.proofs.Newlines.{IsFlat, IsFlatEntry, flat_append, flat_decimal, flat_end, flat_frame, flat_id, flat_line, flat_lost, flat_lost_verdict, flat_no_node, flat_parted, flat_refused, flat_verdict, is_flat}
 use Rattle.lazylog_trace.proofs.PlainEvents.{IsPlain}
 use Rattle.lazylog_trace.proofs.OwnTexts.{IsOwnText, Made}
 
@@ -135,35 +143,38 @@ module _ (shape : Dimensions) (formed : IsShape shape) where
     abbrev w : WorldState
     w = run passed (first_world shape)
 
-    held_is : (holder : ℕ) (told : Result (List Entry) ℕ) → In holder (holders w) → line_told w holder ≡ told → IsWhole (with_newline (held_text holder told))
-    held_is holder (Ok line) among is = whole (line_text holder line) (flat_line holder line (line_flat shape formed passed plain holder line among is))
-    held_is holder (Err shard) among is = whole (lost_text holder shard) (flat_lost holder shard)
+    said_is : (asked : Asked) (holder : ℕ) (told : Result (List Entry) ℕ) → In holder (holders w) → line_told w holder ≡ told → IsWhole (with_newline (holder_said asked holder told))
+    said_is Line holder (Ok line) among is = whole (line_text holder line) (flat_line holder line (line_flat shape formed passed plain holder line among is))
+    said_is Line holder (Err shard) among is = whole (lost_text holder shard) (flat_lost holder shard)
+    said_is Verdict holder (Ok line) among is = whole (verdict_text holder Lawful) (flat_verdict holder Lawful)
+    said_is Verdict holder (Err shard) among is = whole (lost_verdict_text holder shard) (flat_lost_verdict holder shard)
 
-    each_is : (nodes : List ℕ) → Each (λ holder. In holder (holders w)) nodes → Each IsWhole (map (holder_text w) nodes)
-    each_is [] h = tt
-    each_is (holder ∷ others) h = (held_is holder (line_told w holder) h.0 refl, each_is others h.1)
+    each_is : (asked : Asked) (nodes : List ℕ) → Each (λ holder. In holder (holders w)) nodes → Each IsWhole (map (holder_text w asked) nodes)
+    each_is asked [] h = tt
+    each_is asked (holder ∷ others) h = (said_is asked holder (line_told w holder) h.0 refl, each_is asked others h.1)
 
-    holders_are : (nodes : List ℕ) → Each (λ holder. In holder (holders w)) nodes → Each IsWhole (holder_texts w nodes)
-    holders_are [] h = (whole no_holder_text refl, tt)
-    holders_are (holder ∷ others) h = each_is (holder ∷ others) h
+    holders_are : (asked : Asked) (nodes : List ℕ) → Each (λ holder. In holder (holders w)) nodes → Each IsWhole (holder_texts w asked nodes)
+    holders_are asked [] h = (whole no_holder_text refl, tt)
+    holders_are asked (holder ∷ others) h = each_is asked (holder ∷ others) h
 
-    post_are : (word : NodeWord) (bytes : List ℕ) (node : Option ℕ) → Each IsWhole (post_texts w word bytes node)
-    post_are word bytes None = (whole (no_node_text word) (flat_no_node word), tt)
-    post_are word bytes (Some node) = refusal_are (refusal w (Post node bytes))
+    message_is : (edition : Edition) (number : ℕ) (message : Option Envelope) → IsWhole (with_newline (frame_shown edition number message))
+    message_is edition number None = whole (refused_text (NoMessage number)) (flat_refused (NoMessage number))
+    message_is edition number (Some message) = whole (frame_text number message.from message.to (frame edition message)) (flat_frame number message.from message.to (frame edition message))
 
-    own_are : (command : Command) → Each IsWhole (own_texts w command)
-    own_are Nothing = tt
-    own_are (Append client bytes) = post_are client bytes (node_of_word client)
-    own_are (Deliver message) = refusal_are (refusal w (DeliverEvent message))
-    own_are (Flow first last) = tt
-    own_are Lines = holders_are (holders w) (in_each (λ holder. In holder (holders w)) (holders w) (λ holder among. among))
+    action_are : (action : Action) → Each IsWhole (action_texts w action)
+    action_are Nothing = tt
+    action_are (EventAction event) = refusal_are (refusal w event)
+    action_are (NoNode word) = (whole (no_node_text word) (flat_no_node word), tt)
+    action_are (Deliveries first count) = tt
+    action_are (Holders asked) = holders_are asked (holders w) (in_each (λ holder. In holder (holders w)) (holders w) (λ holder among. among))
+    action_are (Message number) = (message_is w.shape.edition number (message_at w number), tt)
 
   module _ (events : List WorldEvent) (plain : Each IsPlain events) where
     own_text : (line : List ℕ) → IsOwnText (first_world shape) events line → IsWhole line
     own_text line own =
         let way = own.on_way in
         let passed : Each IsPlain own.passed = each_left IsPlain own.passed way.rest (subst (Each IsPlain) way.is plain) in
-        each_in IsWhole (own_texts (run own.passed (first_world shape)) own.command) (own_are own.passed passed own.command) line own.among
+        each_in IsWhole (own_texts (run own.passed (first_world shape)) own.command) (action_are own.passed passed (action_of own.command)) line own.among
 
     event_text_is : (told : List Event) (line : List ℕ) → told ≡ (run events (first_world shape)).history → In line (event_texts told) → IsWhole line
     event_text_is told line is among =

@@ -10,7 +10,6 @@ use Rattle.rec_id.specs.declared.event.Event.{Event}
 use Rattle.lazy_msgs.specs.declared.input.WorldEvent.{WorldEvent}
 use Rattle.lazy_rules.specs.WorldRules.{run}
 use Rattle.view_config.specs.Shape.{Dimensions, IsShape}
-use Rattle.view_config.specs.declared.edition.Mode.TheVariants.{M}
 use Rattle.lazylog_trace.proofs.PartedTexts.{made_prints}
 use Rattle.lazylog_trace.specs.Output.{first_progress, out, out_read, Progress, Output, bytes_output, line_output, script_output, behind, closing}
 use Rattle.lazylog_trace.specs.Printed.{Prints, Shows}
@@ -18,7 +17,7 @@ use Rattle.lazylog_trace.specs.Streams.{SourceUse}
 use Rattle.lazylog_trace.specs.Traced.{Traced}
 use Rattle.lazylog_trace.proofs.OutputRuns.{Follows, behind_follows, line_follows, script_follows, bytes_follow}
 
-module _ (source : SourceUse) (shape : Dimensions) (formed : IsShape shape) (mode : shape.mode ≡ M) (bytes : List ℕ) (before after : Option (List ℕ)) (events : List WorldEvent) where
+module _ (source : SourceUse) (shape : Dimensions) (formed : IsShape shape) (bytes : List ℕ) (before after : Option (List ℕ)) (events : List WorldEvent) where
   abbrev start : Progress
   start = first_progress shape
 

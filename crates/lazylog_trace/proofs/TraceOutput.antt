@@ -7,7 +7,6 @@ use Rattle.io_edges.specs.declared.status.Status.{Status}
 use Rattle.io_edges.specs.declared.status.Status.TheVariants.{Done, Usage, BadLine, ReadFault, WriteFault, Memory, Limit}
 use Rattle.io_edges.proofs.TellingLemmas.{append_known-append, goes_on as goes_piece, stops_further, stops_within, stops_same}
 use Rattle.view_config.specs.Shape.{Dimensions, IsShape}
-use Rattle.view_config.specs.declared.edition.Mode.TheVariants.{M}
 use Rattle.lazy_msgs.specs.declared.input.WorldEvent.{WorldEvent}
 use Rattle.lazy_rules.specs.WorldState.{WorldState, first_world}
 use Rattle.lazy_rules.specs.WorldRules.{run}
@@ -235,7 +234,7 @@ module _ (shape : Dimensions) (source : SourceUse) (sink : SinkUse) (trail_befor
         shows = λ other. absurd (other refl);
       }
 
-  module _ (formed : IsShape shape) (mode : shape.mode ≡ M) (world : WorldState) (given status : Status) (t : TracedTo source (first_progress shape) sink.before sink.after world given) (filled : status ≢ Memory → IsFilled world trail_before trail_after) where
+  module _ (formed : IsShape shape) (world : WorldState) (given status : Status) (t : TracedTo source (first_progress shape) sink.before sink.after world given) (filled : status ≢ Memory → IsFilled world trail_before trail_after) where
     -- there was no memory for the trail
     unfilled_trace : status ≡ Memory → IsTrace shape source sink trail_before trail_after status
     unfilled_trace is = record {
@@ -257,7 +256,7 @@ module _ (shape : Dimensions) (source : SourceUse) (sink : SinkUse) (trail_befor
       filled = filled_run;
       shows = λ other.
           subst (λ (h : List Event). Shows sink.before sink.after h status) (sym (filled_run other).history)
-          (shown source shape formed mode t.bytes sink.before sink.after t.events status other traced);
+          (shown source shape formed t.bytes sink.before sink.after t.events status other traced);
     }
       where
         traced : Traced source (first_progress shape) t.bytes sink.before sink.after t.events status

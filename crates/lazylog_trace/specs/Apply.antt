@@ -1,28 +1,24 @@
-use Rattle.std.specs.Prelude.{◌≡◌, ℕ, ◌+◌, ◌-◌, ◌≤◌, List, [], ◌∷◌, ◌++◌, length, map, drop, if◌then◌else◌, Bool, true, false, not, ◌&&◌, nat_le, Option, Some, None, Result, Ok, Err}
+use Rattle.std.specs.Prelude.{◌≡◌, ℕ, ◌+◌, ◌^◌, ◌≤◌, List, [], ◌∷◌, ◌++◌, length, map, drop, if◌then◌else◌, Bool, true, false, not, ◌&&◌, nat_le, Option, Some, None}
 use Rattle.std.specs.List.{range_with_len}
 use Rattle.std.specs.Option.{is_none}
-use Rattle.rec_id.specs.declared.event.Event.{Event}
-use Rattle.rec_id.specs.declared.entry.Entry.{Entry}
 use Rattle.lazy_msgs.specs.declared.input.WorldEvent.{WorldEvent}
-use Rattle.lazy_msgs.specs.declared.input.WorldEvent.TheVariants.{Post, Deliver as DeliverEvent}
+use Rattle.lazy_msgs.specs.declared.input.WorldEvent.TheVariants.{Deliver as DeliverEvent}
 use Rattle.lazy_msgs.specs.declared.refused.EventRefused.{EventRefused}
 use Rattle.lazy_rules.specs.Holders.{holders}
-use Rattle.lazy_rules.specs.Lines.{line_told}
 use Rattle.lazy_rules.specs.WorldState.{WorldState}
 use Rattle.lazy_rules.specs.WorldRules.{after, happened, refusal, sent_weight}
 use Rattle.lazy_rules.specs.declared.limits.TheConstants.{MESSAGES_LIMIT, WEIGHT_LIMIT}
 use Rattle.trace_script.specs.declared.command.Command.{Command}
-use Rattle.trace_script.specs.declared.command.Command.TheVariants.{Nothing, Append, Deliver, Flow, Lines}
-use Rattle.trace_script.specs.declared.node_word.NodeWord.{NodeWord}
-use Rattle.trace_script.specs.Nodes.{node_of_word}
-use Rattle.trace_script.specs.EventTexts.{event_text}
 use Rattle.trace_script.specs.RefusalTexts.{refused_text, no_node_text}
-use Rattle.trace_script.specs.LineTexts.{line_text, lost_text, no_holder_text}
+use Rattle.lazylog_trace.specs.declared.action.Action.{Action}
+use Rattle.lazylog_trace.specs.declared.action.Action.TheVariants.{Nothing, Event, NoNode, Deliveries, Holders, Message}
 use Rattle.lazylog_trace.specs.declared.apply.Outcome.{Outcome}
 use Rattle.lazylog_trace.specs.declared.apply.Outcome.TheVariants.{Through, Spent}
+use Rattle.lazylog_trace.specs.Actions.{action_of}
+use Rattle.lazylog_trace.specs.Shown.{event_texts, holder_texts, message_shown, with_newline}
 
--- A command is applied to a world as events, and prints texts: of the refusal of its event, of the holders'
--- lines, and of what the history gained.
+-- A command is applied to a world as events, and prints texts: of the refusal of its event, of what it asks to see,
+-- and of what the history gained.
 
 -- The events.
 
@@ -70,58 +66,43 @@ pub record Advances (most : ℕ) (before after_it : WorldState) : Type 0 where
 abbrev pub deliveries : ℕ → ℕ → List WorldEvent
 deliveries first count = map DeliverEvent (range_with_len first count)
 
--- an append at this node, where the word names one
-abbrev pub posts : Option ℕ → List ℕ → List WorldEvent
-posts None bytes = []
-posts (Some node) bytes = Post node bytes ∷ []
+-- the events of an action
+abbrev pub action_events : Action → List WorldEvent
+action_events Nothing = []
+action_events (Event event) = event ∷ []
+action_events (NoNode word) = []
+action_events (Deliveries first count) = deliveries first count
+action_events (Holders asked) = []
+action_events (Message number) = []
 
--- the events that a command names: none of a word whose number no node has
+-- those that a command names
 abbrev pub events_of : Command → List WorldEvent
-events_of Nothing = []
-events_of (Append client bytes) = posts (node_of_word client) bytes
-events_of (Deliver message) = DeliverEvent message ∷ []
-events_of (Flow first last) = deliveries first (last + 1 - first)
-events_of Lines = []
+events_of command = action_events (action_of command)
+
+-- it delivers at most so many messages, by numbers of 32 bits
+abbrev pub IsOfFew : ℕ → Action → Type 0
+IsOfFew most (Deliveries first count) = (count ≤ most) × (first + count ≤ 2 ^ 32)
+IsOfFew most _ = Unit {0}
 
 -- The texts, each with its newline.
-
-abbrev pub with_newline : List ℕ → List ℕ
-with_newline text = text ++ (10 ∷ [])
-
--- those of events of the history
-abbrev pub event_texts : List Event → List (List ℕ)
-event_texts events = map (λ event. with_newline (event_text event)) events
 
 -- that of a refusal, where there is one
 abbrev pub refusal_texts : Option EventRefused → List (List ℕ)
 refusal_texts None = []
 refusal_texts (Some refused) = with_newline (refused_text refused) ∷ []
 
--- those of an append: of a refusal by its word, or by the world
-abbrev pub post_texts : WorldState → NodeWord → List ℕ → Option ℕ → List (List ℕ)
-post_texts w word bytes None = with_newline (no_node_text word) ∷ []
-post_texts w word bytes (Some node) = refusal_texts (refusal w (Post node bytes))
-
--- that of a holder: its line, or the shard that is lost
-abbrev pub held_text : ℕ → Result (List Entry) ℕ → List ℕ
-held_text holder (Ok line) = line_text holder line
-held_text holder (Err shard) = lost_text holder shard
-
-abbrev pub holder_text : WorldState → ℕ → List ℕ
-holder_text w holder = with_newline (held_text holder (line_told w holder))
-
--- those of these holders, who are all
-abbrev pub holder_texts : WorldState → List ℕ → List (List ℕ)
-holder_texts w [] = with_newline no_holder_text ∷ []
-holder_texts w (holder ∷ others) = map (holder_text w) (holder ∷ others)
+-- those of an action; deliveries pass refusals over
+abbrev pub action_texts : WorldState → Action → List (List ℕ)
+action_texts w Nothing = []
+action_texts w (Event event) = refusal_texts (refusal w event)
+action_texts w (NoNode word) = with_newline (no_node_text word) ∷ []
+action_texts w (Deliveries first count) = []
+action_texts w (Holders asked) = holder_texts w asked (holders w)
+action_texts w (Message number) = with_newline (message_shown w number) ∷ []
 
 -- those that a command prints of itself
 abbrev pub own_texts : WorldState → Command → List (List ℕ)
-own_texts w Nothing = []
-own_texts w (Append client bytes) = post_texts w client bytes (node_of_word client)
-own_texts w (Deliver message) = refusal_texts (refusal w (DeliverEvent message))
-own_texts w (Flow first last) = []
-own_texts w Lines = holder_texts w (holders w)
+own_texts w command = action_texts w (action_of command)
 
 -- all that a command prints when it led to this world: its own texts, and those of what the history gained
 abbrev pub command_texts : WorldState → Command → WorldState → List (List ℕ)

@@ -1,4 +1,6 @@
 pub mod Words
+pub mod Actions
+pub mod Shown
 pub mod Apply
 pub mod Streams
 pub mod Output

@@ -8,7 +8,8 @@ use Rattle.lazy_rules.specs.WorldState.{WorldState, first_world}
 use Rattle.trace_script.specs.declared.command.Command.{Command}
 use Rattle.trace_script.specs.Script.{command_of}
 use Rattle.trace_script.specs.EndTexts.{end_text, bad_line_text, limit_text, read_fault_text}
-use Rattle.lazylog_trace.specs.Apply.{Applied, applied, events_of, until_spent, command_texts, with_newline}
+use Rattle.lazylog_trace.specs.Apply.{Applied, applied, events_of, until_spent, command_texts}
+use Rattle.lazylog_trace.specs.Shown.{with_newline}
 
 -- The output of a trace: what is printed for the bytes of a script, which events are tried, and how that ends,
 -- byte by byte, as a stream can keep it.

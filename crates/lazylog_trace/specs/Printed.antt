@@ -4,7 +4,7 @@ use Rattle.rec_id.specs.declared.event.Event.{Event}
 use Rattle.io_edges.specs.Telling.{Stops}
 use Rattle.io_edges.specs.declared.status.Status.{Status}
 use Rattle.io_edges.specs.declared.status.Status.TheVariants.{WriteFault}
-use Rattle.lazylog_trace.specs.Apply.{event_texts}
+use Rattle.lazylog_trace.specs.Shown.{event_texts}
 
 -- What was printed is the history: the events among the texts that were written.
 

@@ -1,5 +1,4 @@
-use Rattle.std.specs.Prelude.{◌≡◌, ℕ, ◌+◌, ◌-◌, ◌*◌, ◌≤◌, length}
-use Rattle.view_config.specs.declared.edition.Mode.TheVariants.{M}
+use Rattle.std.specs.Prelude.{ℕ, ◌+◌, ◌-◌, ◌*◌, ◌≤◌, length}
 use Rattle.view_config.specs.declared.limits.TheConstants.{LINE_LIMIT_TWO}
 use Rattle.lazylog_trace.specs.Output.{Progress, lines_limit}
 use Rattle.lazylog_trace.specs.declared.trace.Trace.{Trace}
@@ -16,7 +15,6 @@ progress_of t = record { world = t.world; lines = t.lines; part = t.part.items }
 
 -- it is on its way: no script line has made more events than it may
 pub record IsUnderWay (t : Trace) : Type 0 where
-  pub mode : t.world.shape.mode ≡ M
   pub counted : t.world.events ≤ 128 * t.lines
   pub few : t.lines ≤ lines_limit
   pub short : length t.part.items ≤ bytes_limit

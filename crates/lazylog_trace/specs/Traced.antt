@@ -11,7 +11,7 @@ use Rattle.lazy_rules.specs.WorldRules.{run}
 use Rattle.lazy_core.specs.declared.trail.Trail.{Trail}
 use Rattle.lazy_core.specs.Filled.{IsFilled}
 use Rattle.lazylog_trace.specs.Output.{Progress, Output, first_progress, bytes_output, line_output, script_output, closing, closing_of, out, end_of, out_read}
-use Rattle.lazylog_trace.specs.Apply.{with_newline}
+use Rattle.lazylog_trace.specs.Shown.{with_newline}
 use Rattle.lazylog_trace.specs.Printed.{Shows}
 use Rattle.lazylog_trace.specs.Streams.{SinkUse, SourceUse}
 use Rattle.lazylog_trace.specs.Words.{AskFor, usage_text}

@@ -5,8 +5,10 @@
 //! program.
 #![tactic(auto)]
 
+mod action;
 mod apply;
 mod output;
+mod show;
 mod top;
 mod trace;
 mod words;

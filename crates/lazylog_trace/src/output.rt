@@ -1,6 +1,6 @@
 //! Texts written to a sink.
 
-ghost use Rattle.lazylog_trace.specs.Apply.{with_newline};
+ghost use Rattle.lazylog_trace.specs.Shown.{with_newline};
 ghost use Rattle.lazylog_trace.specs.Output.{closing_of, printed};
 ghost use Rattle.lazylog_trace.specs.Streams.{IsWritten, sink_use};
 ghost use Rattle.std.specs.Prelude.{◌≡◌, None, IsOk};

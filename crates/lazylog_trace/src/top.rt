@@ -1,14 +1,13 @@
 //! The whole program, over any source and sink.
 
-ghost use Rattle.std.specs.Prelude.{◌≡◌, ◌≢◌, ◌⊎◌, IfOk, Err};
+ghost use Rattle.std.specs.Prelude.{◌≡◌, ◌≢◌, IfOk};
 ghost use Rattle.view_config.specs.Shape.{IsShape};
-ghost use Rattle.view_config.specs.declared.edition.Mode.TheVariants.{M};
 ghost use Rattle.io_edges.specs.declared.status.Status.TheVariants.{Usage, Memory};
 ghost use Rattle.lazy_core.specs.Filled.{IsFilled};
 ghost use Rattle.lazylog_trace.specs.Output.{last_text, status_of};
 ghost use Rattle.lazylog_trace.specs.Streams.{AnswersFaults, ClosesFaults, HasFaults, sink_use, source_use};
 ghost use Rattle.lazylog_trace.specs.Trace.{IsUnderWay, progress_of};
-ghost use Rattle.lazylog_trace.specs.Traced.{AnswersUsage, Closed, IsTrace, IsTraceOf, RanOf, TracedTo};
+ghost use Rattle.lazylog_trace.specs.Traced.{AnswersUsage, Closed, IsTrace, IsTraceOf, RanOf};
 ghost use Rattle.lazylog_trace.specs.Words.{IsTraceWords};
 
 use crate::output::{write_last, write_text};
@@ -71,7 +70,12 @@ fn last_text(
 }
 
 /// Writes the last text, and answers what the trace ends with.
-fn close<K: Sink>(alloc: Global, world: &World, ended: Result<(), Status>, sink: &mut K) -> Status
+fn write_end<K: Sink>(
+    alloc: Global,
+    world: &World,
+    ended: Result<(), Status>,
+    sink: &mut K,
+) -> Status
     ensures closed { Closed (last_text world.now ended) (status_of ended) (K.written sink.old) (K.written sink.new) result }
     ensures faults { ClosesFaults ended (K.faults sink.old) (K.faults sink.new) result }
 {
@@ -88,36 +92,28 @@ fn close<K: Sink>(alloc: Global, world: &World, ended: Result<(), Status>, sink:
     }
 }
 
-/// Runs the script to what ends it, and writes the last text.
-fn run_and_close<S: Source, K: Sink>(
+/// Writes the last text, and fills in the trail, unless there is no memory. What the trail needs is there before
+/// the text is written.
+fn close<K: Sink>(
     alloc: Global,
-    trace: &mut Trace,
-    source: &mut S,
+    world: World,
+    ended: Result<(), Status>,
     sink: &mut K,
+    trail: &mut Trail,
 ) -> Status
-    requires { IsUnderWay trace.old }
-    ensures no_usage { result ≢ Usage }
-    ensures faults { AnswersFaults (source_use S.left S.faults source.old source.new) (sink_use K.written K.faults sink.old sink.new) result }
-    ensures traced { TracedTo (source_use S.left S.faults source.old source.new) (progress_of trace.old) (K.written sink.old) (K.written sink.new) trace.new.world result }
-{
-    let ended = run_script(alloc, trace, source, sink);
-    close(alloc, trace.world(), ended, sink)
-}
-
-/// Fills in the trail, unless there was no memory for the trace or is none for the trail.
-fn fill_trail(alloc: Global, world: &World, status: Status, trail: &mut Trail) -> Status
-    ensures status { (result ≡ status) ⊎ (result ≡ Memory) }
-    ensures memory { status ≡ Memory → result ≡ Memory }
-    ensures filled { result ≢ Memory → IsFilled world.now trail.old trail.new }
+    ensures closed { Closed (last_text world ended) (status_of ended) (K.written sink.old) (K.written sink.new) result }
+    ensures faults { ClosesFaults ended (K.faults sink.old) (K.faults sink.new) result }
+    ensures filled { result ≢ Memory → IsFilled world trail.old trail.new }
     ensures unfilled { result ≡ Memory → trail.new ≡ trail.old }
 {
-    if status == Status::Memory {
+    let Ok(lines) = world.lines(alloc) else {
         return Status::Memory;
+    };
+    let status = write_end(alloc, &world, ended, sink);
+    if status != Status::Memory {
+        trail.fill(world, lines);
     }
-    match trail.fill(alloc, world) {
-        Ok(()) => status,
-        Err(AllocError) => Status::Memory,
-    }
+    status
 }
 
 fn trace_shape<S: Source, K: Sink>(
@@ -127,8 +123,7 @@ fn trace_shape<S: Source, K: Sink>(
     sink: &mut K,
     trail: &mut Trail,
 ) -> Status
-    requires mode { shape.now.mode ≡ M }
-    requires formed { IsShape shape.now }
+    requires { IsShape shape.now }
     ensures no_usage { result ≢ Usage }
     ensures faults { AnswersFaults (source_use S.left S.faults source.old source.new) (sink_use K.written K.faults sink.old sink.new) result }
     ensures traced { IsTrace shape.now (source_use S.left S.faults source.old source.new) (sink_use K.written K.faults sink.old sink.new) trail.old trail.new result }
@@ -138,8 +133,8 @@ fn trace_shape<S: Source, K: Sink>(
         return Status::Memory;
     };
     let mut trace = Trace::new(alloc, world);
-    let status = run_and_close(alloc, &mut trace, source, sink);
-    fill_trail(alloc, trace.world(), status, trail)
+    let ended = run_script(alloc, &mut trace, source, sink);
+    close(alloc, trace.into_world(), ended, sink, trail)
 }
 
 /// Traces the script that `source` has, as the words say, and writes what happens to `sink`.

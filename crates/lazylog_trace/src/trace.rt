@@ -3,7 +3,6 @@
 //! Bytes of the script are fed to it. Each script line is parsed, applied and printed as soon as it ends.
 
 ghost use Rattle.std.specs.Prelude.{◌≡◌, [], ◌<◌, ◌+◌, ◌^◌, ◌≤◌, ℕ, List, Option, length, Err, IsErr, IfOk, OnOk, OnErr};
-ghost use Rattle.view_config.specs.declared.edition.Mode.TheVariants.{M};
 ghost use Rattle.io_edges.specs.declared.status.Status.TheVariants.{Limit, WriteFault};
 ghost use Rattle.trace_script.specs.Spelling.{IsSayable};
 ghost use Rattle.lazylog_trace.specs.Apply.{Advances, Applies, applied, events_of};
@@ -38,8 +37,7 @@ fn apply_command<K: Sink>(
     command: Command,
     sink: &mut K,
 ) -> Result<Outcome, Status>
-    requires mode { world.old.shape.mode ≡ M }
-    requires countable { world.old.events + 128 < 2 ^ 32 }
+    requires countable { world.old.events + 128 < 2 ^ 31 }
     requires sayable { IsSayable command }
     ensures applied { IfOk result (Applies (events_of command) world.old world.new) }
     ensures written { IsWritten (command_text world.old command) (sink_use K.written K.faults sink.old sink.new) result }
@@ -60,8 +58,7 @@ fn apply_command<K: Sink>(
 impl Trace {
     /// A trace of which no script was read yet, in this world.
     pub fn new(alloc: Global, world: World) -> Trace
-        requires mode { world.shape.mode ≡ M }
-        requires fresh { world.events ≡ 0 }
+        requires { world.events ≡ 0 }
         ensures under_way { IsUnderWay result }
         ensures progress { progress_of result ≡ record { world = world; lines = 0; part = [] } }
     {
@@ -76,6 +73,13 @@ impl Trace {
         ensures { result.now ≡ self.now.world }
     {
         &self.world
+    }
+
+    /// The world, which is over.
+    pub fn into_world(self) -> World
+        ensures { result ≡ self.world }
+    {
+        self.world
     }
 
     /// Counts one more script line, if there may be one.

@@ -33,7 +33,5 @@ pub fn frame_text(
     let from = end_name(alloc, from)?;
     let to = end_name(alloc, to)?;
     let frame = hex::encode(alloc, frame)?;
-    Ok(text_of(format!(in alloc;
-        "message {number}: {from} to {to}: {frame}"
-    )?))
+    Ok(text_of(format!(in alloc; "message {number}: {from} to {to}: {frame}")?))
 }

@@ -40,9 +40,7 @@ pub fn verdict_text(alloc: Global, holder: u32, verdict: Verdict) -> Result<Text
             second,
         } => {
             let letter = letter(clause);
-            Ok(text_of(format!(in alloc;
-                "law {name}: broken {letter} {first} {second}"
-            )?))
+            Ok(text_of(format!(in alloc; "law {name}: broken {letter} {first} {second}")?))
         }
     }
 }

@@ -1,4 +1,4 @@
-use Rattle.std.proofs.Common.{◌≡◌, ℕ, ◌≤◌, length, Ok, Err, ◌∙◌, ap, subst, arith}
+use Rattle.std.proofs.Common.{◌≡◌, ℕ, length, Ok, Err, ◌∙◌, ap, subst, arith}
 use Rattle.lazy_msgs.specs.Outbox.{cut_to}
 use Rattle.lazy_rules.specs.ClientNode.{ClientNode}
 use Rattle.lazy_rules.specs.ClientState.{ClientState}

@@ -1,4 +1,4 @@
-use Rattle.std.proofs.Common.{◌≡◌, ◌∙◌, ap}
+use Rattle.std.proofs.Common.{◌∙◌, ap}
 use Rattle.lazy_rules.specs.ClientState.{first_client}
 use Rattle.lazy_core.specs.declared.node_state.NodeState.TheVariants.{Client}
 use Rattle.lazy_core.specs.Standing.{first_client_node}

@@ -1,4 +1,4 @@
-use Rattle.std.proofs.Common.{◌≡◌, ◌∙◌, ap}
+use Rattle.std.proofs.Common.{◌∙◌, ap}
 use Rattle.lazy_rules.specs.SeqState.{first_seq}
 use Rattle.lazy_core.specs.declared.node_state.NodeState.TheVariants.{Seq}
 use Rattle.lazy_core.proofs.Walks.{made_more}

@@ -1,4 +1,4 @@
-use Rattle.std.proofs.Common.{◌≡◌, ℕ, ◌∙◌, ap}
+use Rattle.std.proofs.Common.{ℕ, ◌∙◌, ap}
 use Rattle.std.specs.Prelude.{◌/◌, ◌%◌}
 use Rattle.view_config.specs.Shape.{Dimensions}
 use Rattle.lazy_rules.specs.ShardState.{first_shard}

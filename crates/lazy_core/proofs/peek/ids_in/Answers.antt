@@ -1,4 +1,4 @@
-use Rattle.std.proofs.Common.{◌≡◌, ◌<◌, ◌≤◌, ◌∙◌, arith, length}
+use Rattle.std.proofs.Common.{◌≡◌, ◌∙◌, arith, length}
 use Rattle.std.specs.Prelude.{min}
 use Rattle.lazy_core.proofs.Walks.{ids_more, ids_whole}
 use Rattle.lazy_core.proofs.peek.ids_in.Goals as goal

@@ -1,14 +1,12 @@
-use Rattle.std.proofs.Common.{rules, refl}
+use Rattle.std.proofs.Common.{rules}
 use Rattle.view_config.specs.Shape.{Dimensions}
-use Rattle.view_config.specs.declared.edition.Edition.TheVariants.{One}
-use Rattle.view_config.specs.declared.edition.Mode.TheVariants.{M}
 use Rattle.lazylog_trace.proofs.CommandLine.{HaveNumbers, AreWords, asked_some, asked_none}
 use Rattle.lazylog_trace.proofs.words.read_words.Goals as goal
 
-abbrev read_of : goal.After-new → Dimensions
+abbrev read_of : goal.After-of → Dimensions
 read_of c = record {
-  edition = One;
-  mode = M;
+  edition = c.in_ok-edition.edition;
+  mode = c.in_ok-edition.mode;
   seq = c.in_ok-number_at.field-0;
   spares = c.in_ok-number_at-2.field-0;
   shards = c.in_ok-number_at-3.field-0;
@@ -16,7 +14,7 @@ read_of c = record {
   clients = c.in_ok-number_at-5.field-0;
 }
 
-reads : (c : goal.After-new) → HaveNumbers c.args.words.now (read_of c)
+reads : (c : goal.After-of) → HaveNumbers c.args.words.now (read_of c)
 reads c = record {
   count = search rules;
   first = search rules;
@@ -28,7 +26,7 @@ reads c = record {
   clients = search rules;
 }
 
-small : (c : goal.After-new) → AreWords (read_of c)
+small : (c : goal.After-of) → AreWords (read_of c)
 small c = record {
   seq = search rules;
   spares = search rules;
@@ -38,7 +36,7 @@ small c = record {
 }
 
 pub returns-clause-some : goal.returns-clause-some
-returns-clause-some c = asked_some c.args.words.now (read_of c) c.new.result (reads c) refl refl c.new.ensures.value c.new.ensures.valid
+returns-clause-some c = asked_some c.args.words.now (read_of c) c.of.result (reads c) c.of.ensures.value c.of.ensures.valid
 
 pub returns-clause-none : goal.returns-clause-none
-returns-clause-none c = asked_none c.args.words.now (read_of c) c.new.result (reads c) (small c) c.new.ensures.valid
+returns-clause-none c = asked_none c.args.words.now (read_of c) c.of.result (reads c) (small c) c.of.ensures.valid

@@ -1,10 +1,9 @@
-use Rattle.std.proofs.Common.{◌≡◌, Bool, false, sym, subst, ap, ◌∙◌}
+use Rattle.std.proofs.Common.{◌≡◌, false, sym, subst, ap, ◌∙◌}
 use Rattle.lazy_msgs.specs.declared.input.Input.TheVariants.{Take}
 use Rattle.lazy_msgs.specs.declared.input.WorldEvent.TheVariants.{Deliver}
 use Rattle.lazy_msgs.specs.declared.msg.Envelope.{Envelope}
 use Rattle.lazy_rules.specs.Rows.{has_node}
 use Rattle.lazy_rules.specs.WorldState.{WorldState}
-use Rattle.lazy_core.specs.declared.turns.Turn.{Turn}
 use Rattle.lazy_core.proofs.ComesTo.{comes_to}
 use Rattle.lazy_core.proofs.Deliveries.{delivery_turn, mail_of}
 use Rattle.lazy_core.proofs.nodes.Nodes.delivery_to.Goals as goal

@@ -1,4 +1,4 @@
-use Rattle.std.proofs.Common.{◌≡◌, List, ℕ, sym, subst}
+use Rattle.std.proofs.Common.{List, ℕ, sym, subst}
 use Rattle.lazy_msgs.specs.declared.input.Input.TheVariants.{Post as PostInput}
 use Rattle.lazy_msgs.specs.declared.input.WorldEvent.TheVariants.{Post}
 use Rattle.lazy_core.specs.Turning.{IsTurnOf}

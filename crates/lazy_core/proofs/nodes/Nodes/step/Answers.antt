@@ -1,8 +1,8 @@
-use Rattle.std.proofs.Common.{◌≡◌, ◌≤◌, ◌+◌, ℕ, length, ◌∙◌, ap, sym, subst, arith}
+use Rattle.std.proofs.Common.{◌≡◌, ◌≤◌, ◌+◌, length, ◌∙◌, ap, sym, subst, arith}
 use Rattle.std.specs.Prelude.{OnErr}
 use Rattle.lazy_rules.specs.WorldState.{WorldState}
 use Rattle.lazy_rules.specs.declared.limits.TheConstants.{MESSAGES_LIMIT}
-use Rattle.lazy_core.specs.Happens.{Turns}
+use Rattle.lazy_core.specs.Happens.{IsRoom, Turns}
 use Rattle.lazy_core.specs.NodeCall.{Outcome}
 use Rattle.lazy_core.specs.Turning.{IsTurnIn}
 use Rattle.lazy_core.proofs.Happening.{turned_whole, turned_within}
@@ -18,13 +18,13 @@ loop-room-preserved c =
 pub returns-then-not-is_spent : goal.returns-then-not-is_spent
 returns-then-not-is_spent c =
     let sent : length c.loop-room.self.sent ≡ length c.args.self.now.sent = ap (λ (w : WorldState). length w.sent) c.loop-room.invariant.0 in
+    let may = c.room-left.ensures.may in
     let few : length c.loop-room.self.sent + c.loop-room.room ≤ MESSAGES_LIMIT = omega arith in
     subst (λ (w : WorldState). Turns c.args.turn.now w c.step_within-outcome.new.self c.step_within-outcome.result) c.loop-room.invariant.0
     (turned_within c.args.turn.now c.loop-room.self c.step_within-outcome.new.self c.step_within-outcome.result c.loop-room.room few (c.is_spent.ensures.unspent c.if-not-is_spent.true) c.step_within-outcome.ensures)
 
 pub returns : goal.returns
 returns c =
-    let sent : length c.loop-room.self.sent ≡ length c.args.self.now.sent = ap (λ (w : WorldState). length w.sent) c.loop-room.invariant.0 in
-    let left : length c.loop-room.self.sent + c.room-left.result ≡ MESSAGES_LIMIT = omega arith in
+    let left : IsRoom c.loop-room.self c.room-left.result = subst (λ (w : WorldState). IsRoom w c.room-left.result) (sym c.loop-room.invariant.0) c.room-left.ensures in
     subst (λ (w : WorldState). Turns c.args.turn.now w c.step_within.new.self c.step_within.result) c.loop-room.invariant.0
     (turned_whole c.args.turn.now c.loop-room.self c.step_within.new.self c.step_within.result c.room-left.result left c.step_within.ensures)

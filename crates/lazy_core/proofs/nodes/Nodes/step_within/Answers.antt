@@ -1,9 +1,8 @@
-use Rattle.std.proofs.Common.{◌≡◌, ◌+◌, ◌<◌, ◌≤◌, ◌^◌, ℕ, length, sym, subst}
+use Rattle.std.proofs.Common.{◌+◌, ◌<◌, ◌≤◌, ◌^◌, length, sym, subst}
 use Rattle.std.proofs.lemmas.Result.{err_from_is_err_and}
 use Rattle.lazy_rules.specs.WorldState.{WorldState}
 use Rattle.lazy_rules.specs.declared.limits.TheConstants.{MESSAGES_LIMIT}
 use Rattle.lazy_core.specs.Turning.{IsKnown, IsTurnIn}
-use Rattle.lazy_core.specs.WorldView.{world_of}
 use Rattle.lazy_core.proofs.Stepping.{few_sent, few_told, here, light_sent, own_state, place_there, turn_kept, turn_refused, turn_taken}
 use Rattle.lazy_core.proofs.nodes.Nodes.step_within.Goals as goal
 

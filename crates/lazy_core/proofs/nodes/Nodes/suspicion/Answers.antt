@@ -1,8 +1,5 @@
-use Rattle.std.proofs.Common.{◌≡◌, Bool, true, false, Option, Some, ◌∙◌, ap, sym}
-use Rattle.std.specs.Prelude.{not}
-use Rattle.std.specs.Option.{is_none}
+use Rattle.std.proofs.Common.{◌∙◌, ap, sym}
 use Rattle.view_config.specs.Shape.{Dimensions, node_of}
-use Rattle.view_config.specs.declared.nodes.Node.{Node}
 use Rattle.view_config.specs.declared.nodes.TheConstants.{CONTROLLER}
 use Rattle.lazy_msgs.specs.declared.input.Input.TheVariants.{Suspect as SuspectInput}
 use Rattle.lazy_msgs.specs.declared.input.WorldEvent.TheVariants.{Suspect}

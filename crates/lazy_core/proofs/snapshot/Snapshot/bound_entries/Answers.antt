@@ -1,4 +1,4 @@
-use Rattle.std.proofs.Common.{◌≡◌, ◌∙◌, ap, sym}
+use Rattle.std.proofs.Common.{◌∙◌, ap, sym}
 use Rattle.lazy_rules.specs.Lines.{entry_of}
 use Rattle.lazy_core.specs.LinesOf.{stores_at}
 use Rattle.lazy_core.specs.Standing.{world_of_standing}

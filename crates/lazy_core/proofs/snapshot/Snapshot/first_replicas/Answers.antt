@@ -1,4 +1,4 @@
-use Rattle.std.proofs.Common.{◌≡◌, ◌≤◌, ℕ, List, length, Some, ◌∙◌, ap, sym, arith}
+use Rattle.std.proofs.Common.{◌≡◌, ◌≤◌, length, Some, ◌∙◌, ap, sym, arith}
 use Rattle.lazy_core.specs.declared.line.LineError.TheVariants.{Lost}
 use Rattle.lazy_core.specs.LinesOf.{stores_at}
 use Rattle.lazy_core.specs.Standing.{world_of_standing}

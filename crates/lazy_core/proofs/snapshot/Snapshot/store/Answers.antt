@@ -1,4 +1,4 @@
-use Rattle.std.proofs.Common.{◌≡◌, Some, ◌∙◌, ap, sym}
+use Rattle.std.proofs.Common.{Some, ◌∙◌, ap, sym}
 use Rattle.lazy_core.proofs.Seats.{no_store, store_found, store_in}
 use Rattle.lazy_core.proofs.snapshot.Snapshot.store.Goals as goal
 
