@@ -1,0 +1,4 @@
+pub mod NodeLists
+pub mod NoneLost
+pub mod Countable
+pub mod Making
