@@ -15,4 +15,5 @@ pub mod ByteOutput
 pub mod ScriptOutput
 pub mod PrintedHistory
 pub mod TraceOutput
+pub mod LoadOutput
 pub mod Examples

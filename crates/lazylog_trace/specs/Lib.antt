@@ -7,3 +7,4 @@ pub mod Output
 pub mod Trace
 pub mod Traced
 pub mod Printed
+pub mod LoadOutput

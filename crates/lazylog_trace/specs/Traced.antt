@@ -15,6 +15,7 @@ use Rattle.lazylog_trace.specs.Shown.{with_newline}
 use Rattle.lazylog_trace.specs.Printed.{Shows}
 use Rattle.lazylog_trace.specs.Streams.{SinkUse, SourceUse}
 use Rattle.lazylog_trace.specs.Words.{AskFor, usage_text}
+use Rattle.lazylog_trace.specs.declared.words.Task.TheVariants.{Trace}
 
 -- What a trace does: what of its output is written, which events are applied, and what its trail has then,
 -- whatever it ends with. From the bottom up:
@@ -154,10 +155,10 @@ pub record IsTrace (shape : Dimensions) (source : SourceUse) (sink : SinkUse) (t
   pub filled : status ≢ Memory → IsFilled (run events (first_world shape)) trail_before trail_after
   pub shows : status ≢ Memory → Shows sink.before sink.after trail_after.history status
 
--- the same in the shape that words ask for
+-- the same of the trace that words ask for
 abbrev pub IsTraceOf : List (List ℕ) → SourceUse → SinkUse → Trail → Trail → Status → Type 0
 IsTraceOf words source sink trail_before trail_after status =
-    (shape : Dimensions) → AskFor words shape → IsTrace shape source sink trail_before trail_after status
+    (shape : Dimensions) → AskFor words (Trace shape) → IsTrace shape source sink trail_before trail_after status
 
 -- what becomes of faulty words: the text of them is written, or a front of it where a write failed or there was no
 -- memory

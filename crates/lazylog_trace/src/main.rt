@@ -7,6 +7,7 @@
 
 mod action;
 mod apply;
+mod load;
 mod output;
 mod show;
 mod top;

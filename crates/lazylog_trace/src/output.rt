@@ -34,7 +34,7 @@ pub fn write_texts<K: Sink>(sink: &mut K, texts: &TextList) -> Result<(), Status
 }
 
 /// Writes a text and a newline behind it.
-fn write_ended<K: Sink>(sink: &mut K, mut text: Text) -> Result<(), Status>
+pub fn write_ended<K: Sink>(sink: &mut K, mut text: Text) -> Result<(), Status>
     ensures { IsWritten (with_newline text) (sink_use K.written K.faults sink.old sink.new) result }
 {
     match text.push(b'\n') {

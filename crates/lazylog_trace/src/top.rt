@@ -1,18 +1,21 @@
 //! The whole program, over any source and sink.
 
-ghost use Rattle.std.specs.Prelude.{◌≡◌, ◌≢◌, IfOk};
-ghost use Rattle.view_config.specs.Shape.{IsShape};
+ghost use Rattle.std.specs.Prelude.{◌≡◌, ◌≢◌, ℕ, IfOk};
+ghost use Rattle.view_config.specs.Shape.{Dimensions, IsShape};
 ghost use Rattle.io_edges.specs.declared.status.Status.TheVariants.{Usage, Memory};
 ghost use Rattle.lazy_core.specs.Filled.{IsFilled};
 ghost use Rattle.lazylog_trace.specs.Output.{last_text, status_of};
 ghost use Rattle.lazylog_trace.specs.Streams.{AnswersFaults, ClosesFaults, HasFaults, sink_use, source_use};
 ghost use Rattle.lazylog_trace.specs.Trace.{IsUnderWay, progress_of};
 ghost use Rattle.lazylog_trace.specs.Traced.{AnswersUsage, Closed, IsTrace, IsTraceOf, RanOf};
-ghost use Rattle.lazylog_trace.specs.Words.{IsTraceWords};
+ghost use Rattle.lazylog_trace.specs.LoadOutput.{IsLoad, IsLoadOf};
+ghost use Rattle.lazylog_trace.specs.declared.words.Task.TheVariants.{Load as LoadTask, Trace as TraceTask};
+ghost use Rattle.lazylog_trace.specs.Words.{AskFor, IsAsked, IsTask};
 
+use crate::load::load_shape;
 use crate::output::{write_last, write_text};
 use crate::trace::Trace;
-use crate::words::read_words;
+use crate::words::{Task, read_words};
 use io_edges::{Sink, Source, Status};
 use lazy_core::{Trail, World};
 use plain_lists::Sequence;
@@ -137,6 +140,28 @@ fn trace_shape<S: Source, K: Sink>(
     close(alloc, trace.into_world(), ended, sink, trail)
 }
 
+/// Does what the words ask for.
+fn perform<S: Source, K: Sink>(
+    alloc: Global,
+    task: &Task,
+    source: &mut S,
+    sink: &mut K,
+    trail: &mut Trail,
+) -> Status
+    requires { IsTask task.now }
+    ensures no_usage { result ≢ Usage }
+    ensures faults { AnswersFaults (source_use S.left S.faults source.old source.new) (sink_use K.written K.faults sink.old sink.new) result }
+    ensures traced { (shape : Dimensions) → task.now ≡ TraceTask shape → IsTrace shape (source_use S.left S.faults source.old source.new) (sink_use K.written K.faults sink.old sink.new) trail.old trail.new result }
+    ensures loaded { (shape : Dimensions) (seed : ℕ) → task.now ≡ LoadTask shape seed → IsLoad shape seed (sink_use K.written K.faults sink.old sink.new) trail.old trail.new result }
+    ensures load_unread { (shape : Dimensions) (seed : ℕ) → task.now ≡ LoadTask shape seed → source.new ≡ source.old }
+    ensures unfilled { result ≡ Memory → trail.new ≡ trail.old }
+{
+    match task {
+        Task::Trace(shape) => trace_shape(alloc, shape, source, sink, trail),
+        Task::Load(shape, seed) => load_shape(alloc, shape, *seed, sink, trail),
+    }
+}
+
 /// Traces the script that `source` has, as the words say, and writes what happens to `sink`.
 ///
 /// The text that is written, and what the trace ends with, are the definitions `out` and `end_of` of
@@ -154,11 +179,11 @@ pub fn trace_top<S: Source, K: Sink>(
     trail: &mut Trail,
 ) -> Status
     // Faulty words are answered by `usage`, where it can be written, and then no input is read.
-    ensures usage { result ≡ Usage → ¬ IsTraceWords words.now }
-    ensures faulty { ¬ IsTraceWords words.now → AnswersUsage (sink_use K.written K.faults sink.old sink.new) result }
-    ensures unread { ¬ IsTraceWords words.now → source.new ≡ source.old }
+    ensures usage { result ≡ Usage → ¬ IsAsked words.now }
+    ensures faulty { ¬ IsAsked words.now → AnswersUsage (sink_use K.written K.faults sink.old sink.new) result }
+    ensures unread { ¬ IsAsked words.now → source.new ≡ source.old }
 
-    // Where the words ask for a shape, the trace is that of the bytes that the source had, where it tells them.
+    // Where the words ask for a trace, it is that of the bytes that the source had, where it tells them.
     // It ends as these bytes say, and what they say is written; where the source failed, what the script lines say
     // that were read whole, and that it failed; where a write failed, a front of that. The trail has the history
     // of the run of the events that were applied, and the line of each holder whose line isn't lost, which is
@@ -166,21 +191,26 @@ pub fn trace_top<S: Source, K: Sink>(
     // where a write failed.
     ensures traced { IsTraceOf words.now (source_use S.left S.faults source.old source.new) (sink_use K.written K.faults sink.old sink.new) trail.old trail.new result }
 
+    // Where the words ask for a load, its line is what the steps of the schedule come to, made from the first world of
+    // the shape; no input is read. The trail is filled as that of a trace.
+    ensures loaded { IsLoadOf words.now (sink_use K.written K.faults sink.old sink.new) trail.old trail.new result }
+    ensures load_unread { (shape : Dimensions) (seed : ℕ) → AskFor words.now (LoadTask shape seed) → source.new ≡ source.old }
+
     // Faulty words and want of memory leave the trail as it was.
-    ensures faulty_trail { ¬ IsTraceWords words.now → trail.new ≡ trail.old }
+    ensures faulty_trail { ¬ IsAsked words.now → trail.new ≡ trail.old }
     ensures memory_trail { result ≡ Memory → trail.new ≡ trail.old }
 
     // A fault is answered only where one was counted in this call, and one that was counted is answered, unless
     // there was no memory, or, for the source's, the text of it couldn't be written.
     ensures faults { AnswersFaults (source_use S.left S.faults source.old source.new) (sink_use K.written K.faults sink.old sink.new) result }
 {
-    let Some(shape) = read_words(words) else {
+    let Some(task) = read_words(words) else {
         return match write_text(sink, b"usage\n") {
             Ok(()) => Status::Usage,
             Err(status) => status,
         };
     };
-    trace_shape(alloc, &shape, source, sink, trail)
+    perform(alloc, &task, source, sink, trail)
 }
 
 #[cfg(test)]

@@ -1,11 +1,22 @@
 //! The words that the program is called with.
 
-ghost use Rattle.std.specs.Prelude.{◌≡◌, ◌≢◌, ◌↔◌, ◌<◌, ◌^◌, ℕ, length, slice_get, Some, IfSome, IfNone, IsTrue, decimal};
-ghost use Rattle.lazylog_trace.specs.Words.{AskFor, IsNoMode, IsTraceWords, mode_word};
+ghost use Rattle.std.specs.Prelude.{◌≡◌, ◌≢◌, ◌↔◌, ◌<◌, ◌≤◌, ◌^◌, ℕ, length, slice_get, Some, IfSome, IfNone, IsTrue, decimal};
+ghost use Rattle.view_config.specs.Shape.{Dimensions};
+ghost use Rattle.lazylog_trace.specs.Words.{AskFor, IsAsked, IsNoMode, NameShape, mode_word};
+ghost use Rattle.lazylog_trace.specs.declared.words.Task.TheVariants.{Load, Trace};
 
 use rec_id::TextList;
 use trace_script::read_number;
 use view_config::{Edition, Mode, Shape};
+
+/// What the program is to do.
+#[derive(Clone, Copy, Debug, PartialEq, Eq)]
+pub enum Task {
+    /// A script is traced in a log of this shape.
+    Trace(Shape),
+    /// The load of this number is put on a log of this shape.
+    Load(Shape, u32),
+}
 
 /// The number that word `i` is the decimal text of.
 fn number_at(words: &TextList, i: usize) -> Option<u32>
@@ -44,18 +55,12 @@ fn mode_of(word: &[u8]) -> Option<(Edition, Mode)>
     None
 }
 
-/// The shape that the words `trace MODE SEQ SPARES SHARDS COPIES CLIENTS` name, `None` for any other
-/// words and for numbers outside their limits. MODE is `m` or `st`, and of edition Two `m2` or `st2`.
-pub fn read_words(words: &TextList) -> Option<Shape>
-    ensures some { IfSome result (λ shape. AskFor words.now shape) }
-    ensures none { IfNone result (¬ IsTraceWords words.now) }
+/// The shape that the words `MODE SEQ SPARES SHARDS COPIES CLIENTS` name, which are those behind the first.
+fn shape_named(words: &TextList) -> Option<Shape>
+    requires { 7 ≤ length words.now }
+    ensures some { IfSome result (NameShape words.now) }
+    ensures none { IfNone result ((shape : Dimensions) → ¬ NameShape words.now shape) }
 {
-    if words.len() != 7 {
-        return None;
-    }
-    if !is_word(words, 0, b"trace") {
-        return None;
-    }
     let (edition, mode) = mode_of(words.at(1).as_slice())?;
     Shape::of(
         edition,
@@ -66,4 +71,45 @@ pub fn read_words(words: &TextList) -> Option<Shape>
         number_at(words, 5)?,
         number_at(words, 6)?,
     )
+}
+
+/// A trace, where the words are `trace` and those of a shape.
+fn trace_named(words: &TextList) -> Option<Task>
+    ensures some { IfSome result (AskFor words.now) }
+    ensures none { IfNone result ((shape : Dimensions) → ¬ AskFor words.now (Trace shape)) }
+{
+    if words.len() != 7 {
+        return None;
+    }
+    if !is_word(words, 0, b"trace") {
+        return None;
+    }
+    Some(Task::Trace(shape_named(words)?))
+}
+
+/// A load, where the words are `load`, those of a shape, and a number.
+fn load_named(words: &TextList) -> Option<Task>
+    ensures some { IfSome result (AskFor words.now) }
+    ensures none { IfNone result ((shape : Dimensions) (seed : ℕ) → ¬ AskFor words.now (Load shape seed)) }
+{
+    if words.len() != 8 {
+        return None;
+    }
+    if !is_word(words, 0, b"load") {
+        return None;
+    }
+    let shape = shape_named(words)?;
+    Some(Task::Load(shape, number_at(words, 7)?))
+}
+
+/// What the words ask for, `None` for any others and for numbers outside their limits. MODE is `m` or `st`, and of
+/// edition Two `m2` or `st2`.
+pub fn read_words(words: &TextList) -> Option<Task>
+    ensures some { IfSome result (AskFor words.now) }
+    ensures none { IfNone result (¬ IsAsked words.now) }
+{
+    if let Some(trace) = trace_named(words) {
+        return Some(trace);
+    }
+    load_named(words)
 }

@@ -1,11 +1,12 @@
-use Rattle.std.proofs.Common.{subst}
-use Rattle.view_config.specs.Shape.{Dimensions}
-use Rattle.lazylog_trace.specs.Streams.{sink_use, source_use}
-use Rattle.lazylog_trace.specs.Traced.{IsTrace}
-use Rattle.lazylog_trace.proofs.CommandLine.{one_shape}
+use Rattle.lazylog_trace.specs.declared.words.Task.TheVariants.{Load, Trace}
+use Rattle.lazylog_trace.proofs.CommandLine.{one_task}
 use Rattle.lazylog_trace.proofs.top.trace_top.Goals as goal
 
 pub returns-clause-traced : goal.returns-clause-traced
-returns-clause-traced g c = λ shape asked.
-    subst (λ (d : Dimensions). IsTrace d (source_use g.S.Source.left g.S.Source.faults c.args.source.now c.trace_shape.new.source) (sink_use g.K.Sink.written g.K.Sink.faults c.args.sink.now c.trace_shape.new.sink) c.args.trail.now c.trace_shape.new.trail c.trace_shape.result)
-    (one_shape c.args.words.now c.in-Some.shape shape c.in-Some.ensures.some asked) c.trace_shape.ensures.traced
+returns-clause-traced g c = λ shape asked. c.perform.ensures.traced shape (one_task c.args.words.now c.in-Some.task (Trace shape) c.in-Some.ensures.some asked)
+
+pub returns-clause-loaded : goal.returns-clause-loaded
+returns-clause-loaded g c = λ shape seed asked. c.perform.ensures.loaded shape seed (one_task c.args.words.now c.in-Some.task (Load shape seed) c.in-Some.ensures.some asked)
+
+pub returns-clause-load_unread : goal.returns-clause-load_unread
+returns-clause-load_unread g c = λ shape seed asked. c.perform.ensures.load_unread shape seed (one_task c.args.words.now c.in-Some.task (Load shape seed) c.in-Some.ensures.some asked)

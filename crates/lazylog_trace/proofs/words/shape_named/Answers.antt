@@ -1,7 +1,7 @@
 use Rattle.std.proofs.Common.{rules}
 use Rattle.view_config.specs.Shape.{Dimensions}
-use Rattle.lazylog_trace.proofs.CommandLine.{HaveNumbers, AreWords, asked_some, asked_none}
-use Rattle.lazylog_trace.proofs.words.read_words.Goals as goal
+use Rattle.lazylog_trace.proofs.CommandLine.{HaveNumbers, AreWords, named_none, named_some}
+use Rattle.lazylog_trace.proofs.words.shape_named.Goals as goal
 
 abbrev read_of : goal.After-of → Dimensions
 read_of c = record {
@@ -16,8 +16,6 @@ read_of c = record {
 
 reads : (c : goal.After-of) → HaveNumbers c.args.words.now (read_of c)
 reads c = record {
-  count = search rules;
-  first = search rules;
   mode = search rules;
   seq = search rules;
   spares = search rules;
@@ -36,7 +34,7 @@ small c = record {
 }
 
 pub returns-clause-some : goal.returns-clause-some
-returns-clause-some c = asked_some c.args.words.now (read_of c) c.of.result (reads c) c.of.ensures.value c.of.ensures.valid
+returns-clause-some c = named_some c.args.words.now (read_of c) c.of.result (reads c) c.of.ensures.value c.of.ensures.valid
 
 pub returns-clause-none : goal.returns-clause-none
-returns-clause-none c = asked_none c.args.words.now (read_of c) c.of.result (reads c) (small c) c.of.ensures.valid
+returns-clause-none c = named_none c.args.words.now (read_of c) c.of.result (reads c) (small c) c.of.ensures.valid
