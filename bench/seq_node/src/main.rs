@@ -9,6 +9,14 @@ const BATCHES: u32 = 64;
 const FLIGHT: usize = 4;
 const WINDOW: u32 = 4_096;
 
+const POSITIONS: usize = 0x1_0000_0000;
+const POSITION_LIMIT: usize = 61_440;
+
+const CONTROLLER: u32 = 256;
+const FIRST_SEQ: u32 = 257;
+const FIRST_SHARD: u32 = 264;
+const MAX_COPIES: u32 = 4;
+
 const FIRST_FOLLOWER: u32 = 258;
 const FOLLOWERS: u32 = 3;
 const PRIMARY: u32 = 264;
@@ -38,34 +46,130 @@ struct Item {
 }
 
 #[allow(dead_code)]
+enum Body {
+    Elsewhere,
+    Kept(Bytes),
+    Noop,
+    Open,
+    Gone,
+}
+
+#[allow(dead_code)]
+struct Cell {
+    id: RecordId,
+    body: Body,
+}
+
+#[allow(dead_code)]
+enum Entry {
+    Kept(RecordId, Bytes),
+    Noop(RecordId),
+    Gone(RecordId),
+}
+
+#[allow(dead_code)]
+struct Marks {
+    top: u32,
+    bits: Vec<u64>,
+}
+
+#[allow(dead_code)]
+struct Config {
+    view: u32,
+    seq: Vec<u32>,
+    shards: Vec<Vec<u32>>,
+}
+
+#[allow(dead_code)]
 enum Msg {
     Append { view: u32, id: RecordId, bytes: Option<Bytes> },
     AppendAck { view: u32, id: RecordId },
+    Put { id: RecordId, bytes: Bytes },
+    DataAck { view: u32, id: RecordId },
+    Rejected { id: RecordId, place: u32 },
     Place { view: u32, from: u32, items: Vec<Item> },
     Placed { view: u32, upto: u32 },
+    Copy { view: u32, from: u32, cells: Vec<Cell> },
+    Copied { view: u32, upto: u32 },
     Order { view: u32, from: u32, ids: Vec<RecordId> },
     Ordered { view: u32, upto: u32 },
     Stable { view: u32, upto: u32 },
+    Probe { view: u32, read: u32 },
+    ProbeAck { view: u32, read: u32 },
     TailReady { view: u32, read: u32, tail: u32 },
+    Fetch { read: u32, from: u32, to: u32 },
+    Part { read: u32, from: u32, end: u32, entries: Vec<(u32, Entry)> },
+    Flush { config: Config, from: u32, items: Vec<Item> },
+    FlushCopy { view: u32, from: u32, cells: Vec<Cell> },
+    Flushed { view: u32 },
+    Seal { view: u32 },
+    Sealed { view: u32, bound: u32, window: Vec<Marks>, items: Vec<Item> },
+    SealedEmpty { view: u32 },
+    NewView { config: Config, base: u32, window: Vec<Marks> },
+    Started { view: u32 },
+    AskView,
+    ViewIs { config: Config },
+    Claim { stable: u32 },
+    Trim { read: u32, floor: u32 },
+    TrimAck { read: u32 },
+    TrimmedAt { read: u32, floor: u32 },
+}
+
+fn data_weight(bytes: &Option<Bytes>) -> u64 {
+    bytes.as_ref().map_or(0, |bytes| bytes.len() as u64)
+}
+
+fn items_weight(items: &[Item]) -> u64 {
+    items.iter().map(|item| 16 + data_weight(&item.bytes)).sum()
+}
+
+fn cells_weight(cells: &[Cell]) -> u64 {
+    let weight = |cell: &Cell| match &cell.body {
+        Body::Kept(bytes) => 16 + bytes.len() as u64,
+        _ => 16,
+    };
+    cells.iter().map(weight).sum()
+}
+
+fn entries_weight(entries: &[(u32, Entry)]) -> u64 {
+    let weight = |(_, entry): &(u32, Entry)| match entry {
+        Entry::Kept(_, bytes) => 16 + bytes.len() as u64,
+        _ => 16,
+    };
+    entries.iter().map(weight).sum()
+}
+
+fn window_weight(window: &[Marks]) -> u64 {
+    window.iter().map(|marks| 32 + 8 * marks.bits.len() as u64).sum()
 }
 
 impl Msg {
     fn weight(&self) -> u64 {
         let members = match self {
-            Msg::Append { bytes, .. } => bytes.as_ref().map_or(0, |bytes| bytes.len() as u64),
-            Msg::Place { items, .. } => items
-                .iter()
-                .map(|item| 16 + item.bytes.as_ref().map_or(0, |bytes| bytes.len() as u64))
-                .sum(),
+            Msg::Append { bytes, .. } => data_weight(bytes),
+            Msg::Put { bytes, .. } => bytes.len() as u64,
+            Msg::Place { items, .. } | Msg::Flush { items, .. } => items_weight(items),
+            Msg::Copy { cells, .. } | Msg::FlushCopy { cells, .. } => cells_weight(cells),
             Msg::Order { ids, .. } => 16 * ids.len() as u64,
+            Msg::Part { entries, .. } => entries_weight(entries),
+            Msg::Sealed { window, items, .. } => window_weight(window) + items_weight(items),
+            Msg::NewView { window, .. } => window_weight(window),
             _ => 0,
         };
         64 + members
     }
 }
 
+#[allow(dead_code)]
+struct Envelope {
+    from: u32,
+    to: u32,
+    time: u64,
+    msg: Msg,
+}
+
 enum Input {
-    Take { from: u32, msg: Msg },
+    Take(Envelope),
     Tick,
 }
 
@@ -179,12 +283,32 @@ struct Read {
     target: u32,
 }
 
-struct Config {
-    seq: Vec<u32>,
-    shards: Vec<Vec<u32>>,
+/// Nodes by their numbers: clients from 0 on, the controller, sequencing replicas, shard replicas.
+#[derive(Clone, Copy)]
+struct Shape {
+    seq: u32,
+    spares: u32,
+    shards: u32,
+    copies: u32,
+    clients: u32,
+}
+
+impl Shape {
+    fn has_node(&self, number: u32) -> bool {
+        if number < self.clients || number == CONTROLLER {
+            return true;
+        }
+        if FIRST_SEQ <= number && number < FIRST_SEQ + self.seq + self.spares {
+            return true;
+        }
+        FIRST_SHARD <= number
+            && number < FIRST_SHARD + MAX_COPIES * self.shards
+            && (number - FIRST_SHARD) % MAX_COPIES < self.copies
+    }
 }
 
 struct SeqNode {
+    shape: Shape,
     node: u32,
     view: u32,
     config: Config,
@@ -200,9 +324,17 @@ struct SeqNode {
 impl SeqNode {
     fn new() -> SeqNode {
         SeqNode {
+            shape: Shape {
+                seq: 4,
+                spares: 0,
+                shards: 1,
+                copies: 1,
+                clients: 16,
+            },
             node: 257,
             view: 1,
             config: Config {
+                view: 1,
                 seq: (257..257 + 4).collect(),
                 shards: vec![vec![PRIMARY]],
             },
@@ -226,10 +358,22 @@ impl SeqNode {
     }
 
     fn is_leading(&self, view: u32) -> bool {
-        self.is_active(view) && self.config.seq.first() == Some(&self.node)
+        self.is_active(view)
+            && self.config.seq.first() == Some(&self.node)
+            && self.bound as usize + self.pending.len() < POSITIONS
     }
 
-    fn append(&mut self, view: u32, id: RecordId, bytes: &Option<Bytes>, out: &mut Outbox) -> Result<(), Over> {
+    fn append(
+        &mut self,
+        from: u32,
+        view: u32,
+        id: RecordId,
+        bytes: &Option<Bytes>,
+        out: &mut Outbox,
+    ) -> Result<(), Over> {
+        if !self.shape.has_node(from) {
+            return Ok(());
+        }
         let Some(marks) = self.window.get_mut(id.client as usize) else {
             return Ok(());
         };
@@ -239,7 +383,8 @@ impl SeqNode {
         if marks.seen(id.number) {
             return out.send(id.client, Msg::AppendAck { view, id });
         }
-        if self.pending.len() < ITEMS as usize {
+        let count = self.pending.len();
+        if count < ITEMS as usize && self.bound as usize + count < POSITION_LIMIT {
             out.send(id.client, Msg::AppendAck { view, id })?;
             self.words.push_back(id.pack());
             self.pending.push_back(Item { id, bytes: bytes.clone() });
@@ -342,7 +487,7 @@ impl SeqNode {
     }
 
     fn placed(&mut self, from: u32, view: u32, upto: u32, out: &mut Outbox) -> Result<(), Over> {
-        if !self.is_leading(view) {
+        if !self.shape.has_node(from) || !self.is_leading(view) {
             return Ok(());
         }
         let Some(shard) = self.config.shards.iter().position(|nodes| nodes[0] == from) else {
@@ -377,7 +522,7 @@ impl SeqNode {
     }
 
     fn ordered(&mut self, from: u32, view: u32, upto: u32, out: &mut Outbox) -> Result<(), Over> {
-        if !self.is_leading(view) {
+        if !self.shape.has_node(from) || !self.is_leading(view) {
             return Ok(());
         }
         let Some(follower) = self.config.seq[1..].iter().position(|node| *node == from) else {
@@ -401,8 +546,8 @@ impl SeqNode {
     fn step(&mut self, input: &Input, out: &mut Outbox) -> Result<(), Over> {
         match input {
             Input::Tick => self.tick(out),
-            Input::Take { from, msg } => match msg {
-                Msg::Append { view, id, bytes } => self.append(*view, *id, bytes, out),
+            Input::Take(Envelope { from, msg, .. }) => match msg {
+                Msg::Append { view, id, bytes } => self.append(*from, *view, *id, bytes, out),
                 Msg::Placed { view, upto } => self.placed(*from, *view, *upto, out),
                 Msg::Ordered { view, upto } => self.ordered(*from, *view, *upto, out),
                 _ => Ok(()),
@@ -427,7 +572,8 @@ fn step(node: &mut SeqNode, input: &Input, out: &mut Outbox) -> u64 {
 }
 
 fn take(node: &mut SeqNode, from: u32, msg: Msg, out: &mut Outbox) -> u64 {
-    step(node, &Input::Take { from, msg }, out)
+    let envelope = Envelope { from, to: 257, time: 0, msg };
+    step(node, &Input::Take(envelope), out)
 }
 
 fn append(node: &mut SeqNode, number: u32, out: &mut Outbox) -> u64 {

@@ -1,14 +1,22 @@
 //! The work of `crates/shard_node_bench`.
 
 use std::collections::HashMap;
-use std::rc::Rc;
+use std::sync::Arc;
 
-type Bytes = Rc<[u8]>;
+type Bytes = Arc<[u8]>;
 
 const BATCH: u32 = 64;
 const BATCHES: u32 = 1_024;
 const WIDTH: u32 = 256;
 const JOBS: usize = 4;
+const CONTROLLER: u32 = 256;
+const FIRST_SEQ: u32 = 257;
+const FIRST_SHARD: u32 = 264;
+const MAX_COPIES: u32 = 4;
+
+/// What an outbox may weigh.
+const ROOM: u64 = 1_048_576;
+
 const LEADER: u32 = 257;
 const PRIMARY: u32 = 264;
 
@@ -38,6 +46,7 @@ enum Body {
 enum Entry {
     Kept(RecordId, Bytes),
     Noop(RecordId),
+    Gone(RecordId),
 }
 
 #[derive(Clone)]
@@ -195,58 +204,144 @@ impl ShardStore {
 }
 
 #[allow(dead_code)]
-enum Msg {
-    Place {
-        view: u32,
-        from: u32,
-        items: Vec<Item>,
-    },
-    Placed {
-        view: u32,
-        upto: u32,
-    },
-    Copy {
-        view: u32,
-        from: u32,
-        cells: Vec<Cell>,
-    },
-    Copied {
-        view: u32,
-        upto: u32,
-    },
-    Stable {
-        view: u32,
-        upto: u32,
-    },
-    Claim {
-        stable: u32,
-    },
-    Put {
-        id: RecordId,
-        bytes: Bytes,
-    },
-    DataAck {
-        view: u32,
-        id: RecordId,
-    },
-    Rejected {
-        id: RecordId,
-        place: u32,
-    },
-    Fetch {
-        read: u32,
-        from: u32,
-        to: u32,
-    },
-    Part {
-        read: u32,
-        from: u32,
-        end: u32,
-        entries: Vec<(u32, Entry)>,
-    },
+struct Marks {
+    top: u32,
+    bits: Vec<u64>,
 }
 
-type Sends = Vec<(u32, Msg)>;
+#[allow(dead_code)]
+struct Config {
+    view: u32,
+    seq: Vec<u32>,
+    shards: Vec<Vec<u32>>,
+}
+
+#[allow(dead_code)]
+enum Msg {
+    Append { view: u32, id: RecordId, bytes: Option<Bytes> },
+    AppendAck { view: u32, id: RecordId },
+    Put { id: RecordId, bytes: Bytes },
+    DataAck { view: u32, id: RecordId },
+    Rejected { id: RecordId, place: u32 },
+    Place { view: u32, from: u32, items: Vec<Item> },
+    Placed { view: u32, upto: u32 },
+    Copy { view: u32, from: u32, cells: Vec<Cell> },
+    Copied { view: u32, upto: u32 },
+    Order { view: u32, from: u32, ids: Vec<RecordId> },
+    Ordered { view: u32, upto: u32 },
+    Stable { view: u32, upto: u32 },
+    Probe { view: u32, read: u32 },
+    ProbeAck { view: u32, read: u32 },
+    TailReady { view: u32, read: u32, tail: u32 },
+    Fetch { read: u32, from: u32, to: u32 },
+    Part { read: u32, from: u32, end: u32, entries: Vec<(u32, Entry)> },
+    Flush { config: Config, from: u32, items: Vec<Item> },
+    FlushCopy { view: u32, from: u32, cells: Vec<Cell> },
+    Flushed { view: u32 },
+    Seal { view: u32 },
+    Sealed { view: u32, bound: u32, window: Vec<Marks>, items: Vec<Item> },
+    SealedEmpty { view: u32 },
+    NewView { config: Config, base: u32, window: Vec<Marks> },
+    Started { view: u32 },
+    AskView,
+    ViewIs { config: Config },
+    Claim { stable: u32 },
+    Trim { read: u32, floor: u32 },
+    TrimAck { read: u32 },
+    TrimmedAt { read: u32, floor: u32 },
+}
+
+fn data_weight(bytes: &Option<Bytes>) -> u64 {
+    bytes.as_ref().map_or(0, |bytes| bytes.len() as u64)
+}
+
+fn items_weight(items: &[Item]) -> u64 {
+    items.iter().map(|item| 16 + data_weight(&item.bytes)).sum()
+}
+
+fn cells_weight(cells: &[Cell]) -> u64 {
+    let weight = |cell: &Cell| match &cell.body {
+        Body::Kept(bytes) => 16 + bytes.len() as u64,
+        _ => 16,
+    };
+    cells.iter().map(weight).sum()
+}
+
+fn entries_weight(entries: &[(u32, Entry)]) -> u64 {
+    let weight = |(_, entry): &(u32, Entry)| match entry {
+        Entry::Kept(_, bytes) => 16 + bytes.len() as u64,
+        _ => 16,
+    };
+    entries.iter().map(weight).sum()
+}
+
+fn window_weight(window: &[Marks]) -> u64 {
+    window.iter().map(|marks| 32 + 8 * marks.bits.len() as u64).sum()
+}
+
+impl Msg {
+    fn weight(&self) -> u64 {
+        let members = match self {
+            Msg::Append { bytes, .. } => data_weight(bytes),
+            Msg::Put { bytes, .. } => bytes.len() as u64,
+            Msg::Place { items, .. } | Msg::Flush { items, .. } => items_weight(items),
+            Msg::Copy { cells, .. } | Msg::FlushCopy { cells, .. } => cells_weight(cells),
+            Msg::Order { ids, .. } => 16 * ids.len() as u64,
+            Msg::Part { entries, .. } => entries_weight(entries),
+            Msg::Sealed { window, items, .. } => window_weight(window) + items_weight(items),
+            Msg::NewView { window, .. } => window_weight(window),
+            _ => 0,
+        };
+        64 + members
+    }
+}
+
+#[allow(dead_code)]
+struct Envelope {
+    from: u32,
+    to: u32,
+    time: u64,
+    msg: Msg,
+}
+
+#[allow(dead_code)]
+enum Input {
+    Take(Envelope),
+    Tick,
+}
+
+/// Messages with their addressees, so many and of so much weight at most.
+struct Outbox {
+    sends: Vec<(u32, Msg)>,
+    weight: u64,
+    room_messages: usize,
+    room_weight: u64,
+}
+
+#[cold]
+fn over() -> ! {
+    std::process::exit(1)
+}
+
+impl Outbox {
+    fn new(room_messages: usize) -> Outbox {
+        Outbox {
+            sends: Vec::new(),
+            weight: 0,
+            room_messages,
+            room_weight: ROOM,
+        }
+    }
+
+    fn send(&mut self, to: u32, msg: Msg) {
+        let weight = msg.weight();
+        if self.sends.len() == self.room_messages || weight > self.room_weight - self.weight {
+            over();
+        }
+        self.sends.push((to, msg));
+        self.weight += weight;
+    }
+}
 
 struct Backup {
     node: u32,
@@ -260,7 +355,36 @@ struct Job {
     asker: u32,
 }
 
+/// Nodes by their numbers: clients from 0 on, the controller, sequencing replicas, shard replicas.
+#[derive(Clone, Copy)]
+struct Shape {
+    seq: u32,
+    spares: u32,
+    shards: u32,
+    copies: u32,
+    clients: u32,
+}
+
+impl Shape {
+    fn has_client(&self, number: u32) -> bool {
+        number < self.clients
+    }
+
+    fn has_node(&self, number: u32) -> bool {
+        if self.has_client(number) || number == CONTROLLER {
+            return true;
+        }
+        if FIRST_SEQ <= number && number < FIRST_SEQ + self.seq + self.spares {
+            return true;
+        }
+        FIRST_SHARD <= number
+            && number < FIRST_SHARD + MAX_COPIES * self.shards
+            && (number - FIRST_SHARD) % MAX_COPIES < self.copies
+    }
+}
+
 struct ShardNode {
+    shape: Shape,
     view: u32,
     primary: bool,
     backups: Vec<Backup>,
@@ -272,6 +396,13 @@ impl ShardNode {
     fn new(primary: bool) -> ShardNode {
         let nodes: &[u32] = if primary { &[265, 266] } else { &[] };
         ShardNode {
+            shape: Shape {
+                seq: 2,
+                spares: 1,
+                shards: 1,
+                copies: 3,
+                clients: 16,
+            },
             view: 1,
             primary,
             backups: nodes
@@ -287,8 +418,15 @@ impl ShardNode {
     }
 
     #[inline(never)]
-    fn step(&mut self, sender: u32, msg: &Msg, out: &mut Sends) {
-        match msg {
+    fn step(&mut self, input: &Input, out: &mut Outbox) {
+        let Input::Take(envelope) = input else {
+            return;
+        };
+        let sender = envelope.from;
+        if !self.shape.has_node(sender) {
+            return;
+        }
+        match &envelope.msg {
             Msg::Place { view, from, items } => self.place(sender, *view, *from, items, out),
             Msg::Copy { view, from, cells } => self.copy(sender, *view, *from, cells, out),
             Msg::Copied { view, upto } => self.copied(sender, *view, *upto, out),
@@ -299,7 +437,10 @@ impl ShardNode {
         }
     }
 
-    fn place(&mut self, sender: u32, view: u32, from: u32, items: &[Item], out: &mut Sends) {
+    fn place(&mut self, sender: u32, view: u32, from: u32, items: &[Item], out: &mut Outbox) {
+        if !items.iter().all(|item| self.shape.has_client(item.id.client)) {
+            return;
+        }
         if !self.primary || view != self.view {
             return;
         }
@@ -315,12 +456,12 @@ impl ShardNode {
             let first = self.jobs.first().map_or(self.store.len(), |job| job.from);
             let upto = from + items.len() as u32;
             if upto <= first {
-                out.push((sender, Msg::Placed { view, upto }));
+                out.send(sender, Msg::Placed { view, upto });
             }
         }
     }
 
-    fn copies(&self, job: Job, out: &mut Sends) {
+    fn copies(&self, job: Job, out: &mut Outbox) {
         if self.store.has_open_below(job.end) {
             return;
         }
@@ -328,17 +469,17 @@ impl ShardNode {
             if backup.copied.is_none_or(|copied| copied < job.end) {
                 let cells = self.store.cells(job.from, job.end);
                 let (view, from) = (self.view, job.from);
-                out.push((backup.node, Msg::Copy { view, from, cells }));
+                out.send(backup.node, Msg::Copy { view, from, cells });
             }
         }
     }
 
-    fn push(&mut self, i: usize, out: &mut Sends) {
+    fn push(&mut self, i: usize, out: &mut Outbox) {
         self.copies(self.jobs[i], out);
         self.settle(out);
     }
 
-    fn settle(&mut self, out: &mut Sends) {
+    fn settle(&mut self, out: &mut Outbox) {
         while let Some(job) = self.jobs.first().copied() {
             let has = |backup: &Backup| backup.copied.is_some_and(|copied| copied >= job.end);
             if self.store.has_open_below(job.end) || !self.backups.iter().all(has) {
@@ -346,11 +487,14 @@ impl ShardNode {
             }
             self.jobs.remove(0);
             let (view, upto) = (self.view, job.end);
-            out.push((job.asker, Msg::Placed { view, upto }));
+            out.send(job.asker, Msg::Placed { view, upto });
         }
     }
 
-    fn copy(&mut self, sender: u32, view: u32, from: u32, cells: &[Cell], out: &mut Sends) {
+    fn copy(&mut self, sender: u32, view: u32, from: u32, cells: &[Cell], out: &mut Outbox) {
+        if !cells.iter().all(|cell| self.shape.has_client(cell.id.client)) {
+            return;
+        }
         if self.primary || view != self.view {
             return;
         }
@@ -360,10 +504,10 @@ impl ShardNode {
         } else if upto > self.store.len() {
             return;
         }
-        out.push((sender, Msg::Copied { view, upto }));
+        out.send(sender, Msg::Copied { view, upto });
     }
 
-    fn copied(&mut self, sender: u32, view: u32, upto: u32, out: &mut Sends) {
+    fn copied(&mut self, sender: u32, view: u32, upto: u32, out: &mut Outbox) {
         if !self.primary || view != self.view || upto > self.store.len() {
             return;
         }
@@ -374,7 +518,7 @@ impl ShardNode {
         self.settle(out);
     }
 
-    fn stable(&mut self, view: u32, upto: u32, out: &mut Sends) {
+    fn stable(&mut self, view: u32, upto: u32, out: &mut Outbox) {
         if view != self.view || upto <= self.store.stable || upto > self.store.len() {
             return;
         }
@@ -382,20 +526,23 @@ impl ShardNode {
             return;
         }
         self.store.stable = upto;
-        out.push((296, Msg::Claim { stable: upto }));
+        out.send(296, Msg::Claim { stable: upto });
     }
 
-    fn put(&mut self, sender: u32, id: RecordId, bytes: &Bytes, out: &mut Sends) {
+    fn put(&mut self, sender: u32, id: RecordId, bytes: &Bytes, out: &mut Outbox) {
+        if !self.shape.has_client(id.client) {
+            return;
+        }
         let view = self.view;
         if let Some(place) = self.store.noop_at(id) {
             if place < self.store.stable {
-                out.push((sender, Msg::Rejected { id, place }));
+                out.send(sender, Msg::Rejected { id, place });
             } else {
                 self.store.hold(id, bytes.clone());
             }
             return;
         }
-        out.push((sender, Msg::DataAck { view, id }));
+        out.send(sender, Msg::DataAck { view, id });
         match self.store.open_at(id) {
             Some(place) => {
                 self.store.fill(place, bytes.clone());
@@ -410,7 +557,7 @@ impl ShardNode {
         }
     }
 
-    fn fetch(&mut self, sender: u32, read: u32, from: u32, to: u32, out: &mut Sends) {
+    fn fetch(&mut self, sender: u32, read: u32, from: u32, to: u32, out: &mut Outbox) {
         let end = to.min(self.store.stable);
         let entries = self.store.part(from, end);
         let part = Msg::Part {
@@ -419,7 +566,7 @@ impl ShardNode {
             end,
             entries,
         };
-        out.push((sender, part));
+        out.send(sender, part);
     }
 }
 
@@ -441,6 +588,16 @@ fn noted(sum: u64, msg: &Msg) -> u64 {
     sum.wrapping_mul(31).wrapping_add(told)
 }
 
+fn feed(node: &mut ShardNode, from: u32, to: u32, msg: Msg, out: &mut Outbox) {
+    let envelope = Envelope {
+        from,
+        to,
+        time: 0,
+        msg,
+    };
+    node.step(&Input::Take(envelope), out);
+}
+
 impl Replicas {
     fn new() -> Replicas {
         Replicas {
@@ -451,31 +608,31 @@ impl Replicas {
         }
     }
 
-    fn take_answer(&mut self, from: u32, msg: &Msg) {
-        let mut out = Vec::new();
-        self.primary.step(from, msg, &mut out);
-        for (_, msg) in &out {
+    fn take_answer(&mut self, from: u32, msg: Msg) {
+        let mut out = Outbox::new(16);
+        feed(&mut self.primary, from, PRIMARY, msg, &mut out);
+        for (_, msg) in &out.sends {
             self.sum = noted(self.sum, msg);
         }
     }
 
-    fn deliver(&mut self, to: u32, msg: &Msg) {
-        let mut answers = Vec::new();
+    fn deliver(&mut self, to: u32, msg: Msg) {
+        let mut answers = Outbox::new(4);
         match to {
-            265 => self.first.step(PRIMARY, msg, &mut answers),
-            266 => self.second.step(PRIMARY, msg, &mut answers),
-            _ => self.sum = noted(self.sum, msg),
+            265 => feed(&mut self.first, PRIMARY, to, msg, &mut answers),
+            266 => feed(&mut self.second, PRIMARY, to, msg, &mut answers),
+            _ => self.sum = noted(self.sum, &msg),
         }
-        if let Some((_, answer)) = answers.pop() {
-            self.take_answer(to, &answer);
+        if let Some((_, answer)) = answers.sends.pop() {
+            self.take_answer(to, answer);
         }
     }
 
-    fn serve(&mut self, from: u32, msg: &Msg) {
-        let mut sends = Vec::new();
-        self.primary.step(from, msg, &mut sends);
-        while let Some((to, msg)) = sends.pop() {
-            self.deliver(to, &msg);
+    fn serve(&mut self, from: u32, msg: Msg) {
+        let mut out = Outbox::new(64);
+        feed(&mut self.primary, from, PRIMARY, msg, &mut out);
+        while let Some((to, msg)) = out.sends.pop() {
+            self.deliver(to, msg);
         }
     }
 
@@ -483,7 +640,7 @@ impl Replicas {
         let items = batch(from + 1, whole);
         self.serve(
             LEADER,
-            &Msg::Place {
+            Msg::Place {
                 view: 1,
                 from,
                 items,
@@ -498,7 +655,7 @@ impl Replicas {
                 number: from + i + 1,
             };
             let bytes = Bytes::from(&b"12345678"[..]);
-            self.serve(id.client, &Msg::Put { id, bytes });
+            self.serve(id.client, Msg::Put { id, bytes });
         }
     }
 }
@@ -536,11 +693,11 @@ fn fetched(rounds: u32) -> u64 {
     let mut replicas = Replicas::new();
     (0..BATCHES).for_each(|i| replicas.place_batch(true, BATCH * i));
     let upto = BATCH * BATCHES;
-    replicas.serve(LEADER, &Msg::Stable { view: 1, upto });
+    replicas.serve(LEADER, Msg::Stable { view: 1, upto });
     for _ in 0..rounds {
         for i in 0..upto / WIDTH {
             let (from, to) = (WIDTH * i, WIDTH * (i + 1));
-            replicas.serve(0, &Msg::Fetch { read: 1, from, to });
+            replicas.serve(0, Msg::Fetch { read: 1, from, to });
         }
     }
     replicas.sum
