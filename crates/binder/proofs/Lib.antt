@@ -5,3 +5,4 @@ pub mod Chains
 pub mod PassedBatches
 pub mod ReadyReads
 pub mod Leaving
+pub mod PassedLeaving

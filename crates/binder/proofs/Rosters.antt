@@ -142,3 +142,12 @@ all_there_with count given room are node inside new =
     let next : IsRoster count (given ++ node ∷ []) room = with_answer count given room are node inside new in
     let long : length (given ++ node ∷ []) ≡ suc (length given) = omega (arith, length_push given node) in
     one_less (length given) count (length (given ++ node ∷ [])) (omega (arith, inside)) long ∙ all_there count (given ++ node ∷ []) room next
+
+-- no answers are all, where none are awaited
+pub none_there : (count : ℕ) → eqb count 0 ≡ has_all count []
+none_there count =
+    let all : eqb 0 count ≡ has_all count [] = all_there count [] count (no_answers count count (omega arith)) in
+    elim (cases_eq count 0) [
+      | inl none ↦ eq-eqb count 0 none ∙ sym (eq-eqb 0 count (sym none)) ∙ all
+      | inr some ↦ ne_eqb count 0 some ∙ sym (ne_eqb 0 count (λ same. some (sym same))) ∙ all
+    ]

@@ -1,5 +1,5 @@
 use Rattle.std.specs.Prelude.{ℕ, suc, List, [], ◌∷◌, length, ◌==◌, if◌then◌else◌}
-use Rattle.lazy_rules.specs.Flight.{Batch, Probe, has_placing, has_ordering, with_place, with_order, passed, passing, has_later_probe, with_probe, is_finished, is_ready}
+use Rattle.lazy_rules.specs.Flight.{Batch, Probe, has_placing, has_ordering, with_place, with_order, passed, passing, has_all, now_ordering, place_noted, has_later_probe, with_probe, is_finished, is_ready}
 use Rattle.binder.specs.declared.batch.Batch.{Batch as Outline}
 use Rattle.binder.specs.declared.batch.Progress.{Progress}
 use Rattle.binder.specs.declared.batch.Progress.TheVariants.{Ignored, Waiting, Passed}
@@ -59,6 +59,13 @@ after_finish followers (batch ∷ others) = if is_finished followers batch then 
 abbrev pub after_ready : ℕ → List Probe → List Probe
 after_ready bound [] = []
 after_ready bound (probe ∷ others) = if is_ready bound probe then others else probe ∷ after_ready bound others
+
+-- a batch once this answer of a shard is noted, and once it has passed where it can
+abbrev pub once_placed : ℕ → ℕ → ℕ → Batch → Batch
+once_placed shards upto shard batch =
+    if batch.ordering then batch
+    else (if has_all shards (place_noted upto shard batch).placed then now_ordering (place_noted upto shard batch)
+    else place_noted upto shard batch)
 
 -- how many batches leave: the first ones, while they are finished
 abbrev pub leaving : ℕ → List Batch → ℕ

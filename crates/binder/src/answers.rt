@@ -26,20 +26,6 @@ impl Model for Answers {
     ghost invariant = { λ a. IsRoster a.count a.given.items (vec_capacity a.given) };
 }
 
-/// A clone has the same answers, and room for all.
-impl Clone for Answers {
-    ghost is_clone = { λ a b. b ≡ a };
-
-    fn clone(&self) -> Result<Self, AllocError> {
-        let mut given = self.given.clone()?;
-        given.reserve((self.count as usize).saturating_sub(given.len()))?;
-        Ok(Answers {
-            count: self.count,
-            given,
-        })
-    }
-}
-
 impl Answers {
     ghost use Rattle.binder.specs.Held.{Answering};
 
@@ -83,6 +69,13 @@ impl Answers {
             return self.are_all();
         }
         self.given.len() == self.count as usize - 1
+    }
+
+    /// No answer is awaited.
+    pub(crate) fn are_none(&self) -> bool
+        ensures { result ≡ has_all self.now.count [] }
+    {
+        self.count == 0
     }
 
     pub(crate) fn clear(&mut self)

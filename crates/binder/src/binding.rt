@@ -1,7 +1,7 @@
 //! The binder itself.
 
-ghost use Rattle.std.specs.Prelude.{◌≡◌, ℕ, ◌+◌, ◌^◌, ◌<◌, ◌≤◌, length, nat_lt, not, option_map, slice_get, Some, IfOk, is_some, vec_capacity};
-ghost use Rattle.lazy_rules.specs.Flight.{Probe, flight_end, with_batch, with_order, lacks_place, lacks_order, finish, has_later_probe, has_ordering, greatest, ready};
+ghost use Rattle.std.specs.Prelude.{◌≡◌, ℕ, ◌+◌, ◌^◌, ◌<◌, ◌≤◌, length, nat_lt, not, option_map, slice_get, Some, IfOk, is_some};
+ghost use Rattle.lazy_rules.specs.Flight.{Probe, flight_end, with_batch, with_order, lacks_place, lacks_order, finish, has_all, has_later_probe, has_ordering, has_placing, greatest, passed, place_noted, ready, with_place};
 ghost use Rattle.binder.specs.Held.{AllFor};
 ghost use Rattle.binder.specs.Sound.{IsFlight};
 ghost use Rattle.binder.specs.Binding.{first_binding, leaving, outline, probe_of, placed_flight, placed_progress, ordered_flight, ordered_progress, probes_with, after_finish, after_ready};
@@ -18,7 +18,7 @@ use std::marker::Model;
 use view_config::MAX_CLIENTS;
 
 /// The batches of a leader that are on their way, at most four, and the reads that wait, at most one
-/// of each client. No call but [`Binder::new`] and a clone takes memory.
+/// of each client. No call but [`Binder::new`] takes memory.
 #[derive(Drop)]
 pub struct Binder {
     shards: u32,
@@ -50,31 +50,6 @@ fn room(alloc: Global, shards: u32, followers: u32) -> Result<Vec<Slot>, AllocEr
         room.push(Slot::new(alloc, shards, followers)?)?;
     }
     Ok(room)
-}
-
-/// The same batches, with room for as many as are on their way at most.
-fn copies(slots: &Vec<Slot>) -> Result<Vec<Slot>, AllocError>
-    ensures same { IfOk result (λ made. made.items ≡ slots.now.items) }
-    ensures room { IfOk result (λ made. FLIGHT_LIMIT ≤ vec_capacity made) }
-{
-    let mut made = slots.clone()?;
-    made.reserve((FLIGHT_LIMIT as usize).saturating_sub(made.len()))?;
-    Ok(made)
-}
-
-/// A clone has the same batches and reads, and room of its own.
-impl Clone for Binder {
-    ghost is_clone = { λ a b. b ≡ a };
-
-    fn clone(&self) -> Result<Self, AllocError> {
-        Ok(Binder {
-            shards: self.shards,
-            followers: self.followers,
-            flight: copies(&self.flight)?,
-            spare: copies(&self.spare)?,
-            reads: self.reads.clone()?,
-        })
-    }
 }
 
 impl Binder {
@@ -161,6 +136,31 @@ impl Binder {
         ensures progress { result ≡ ordered_progress self.old.flight upto }
     {
         order(&mut self.flight, follower, upto)
+    }
+
+    /// A batch is being placed that ends at `upto`.
+    pub fn has_placing(&self, upto: u32) -> bool
+        ensures { result ≡ has_placing self.now.flight upto }
+    {
+        flight::has_placing(&self.flight, upto)
+    }
+
+    /// Every shard answered for batch `i`, once this one has, for all positions below `upto`.
+    pub fn is_placed_with(&self, i: u32, shard: u32, upto: u32) -> bool
+        requires there { i < length self.now.flight }
+        requires known { shard < self.now.shards }
+        ensures { option_map (λ batch. has_all self.now.shards (place_noted upto shard batch).placed) (slice_get self.now.flight i) ≡ Some result }
+    {
+        self.flight[i as usize].is_placed_with(shard, upto)
+    }
+
+    /// How many batches leave once the shard's answer is noted.
+    pub fn leaving_placed(&self, shard: u32, upto: u32) -> u32
+        requires { shard < self.now.shards }
+        ensures leaving { result ≡ leaving self.now.followers (passed self.now.shards (with_place self.now.flight shard upto)) }
+        ensures few { result ≤ length self.now.flight }
+    {
+        flight::leaving_placed(&self.flight, shard, upto)
     }
 
     /// A batch is ordered that ends at `upto`.

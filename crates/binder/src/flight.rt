@@ -102,6 +102,16 @@ pub(crate) fn order(flight: &mut [Slot], follower: u32, upto: u32) -> Progress
     Progress::Waiting
 }
 
+/// A batch is being placed that ends at `upto`.
+pub(crate) fn has_placing(flight: &[Slot], upto: u32) -> bool
+    ensures { result ≡ has_placing (batches flight.now) upto }
+{
+    match flight.split_first() {
+        Some((first, others)) => first.is_placing_to(upto) || has_placing(others, upto),
+        None => false,
+    }
+}
+
 /// A batch is ordered that ends at `upto`.
 pub(crate) fn has_ordering(flight: &[Slot], upto: u32) -> bool
     ensures { result ≡ has_ordering (batches flight.now) upto }
@@ -123,6 +133,24 @@ pub(crate) fn leaving_ordered(flight: &[Slot], follower: u32, upto: u32) -> u32
         Some((first, others)) => {
             if first.is_finished_with(follower, upto) {
                 return leaving_ordered(others, follower, upto) + 1;
+            }
+            0
+        }
+        None => 0,
+    }
+}
+
+/// How many batches leave once the shard's answer is noted.
+pub(crate) fn leaving_placed(flight: &[Slot], shard: u32, upto: u32) -> u32
+    requires few { length flight.now < 2 ^ 32 }
+    requires room { Each (λ held. shard < held.shards) flight.now }
+    ensures leaving { (shards followers : ℕ) → AllFor shards followers flight.now → result ≡ leaving followers (passed shards (with_place (batches flight.now) shard upto)) }
+    ensures few { result ≤ length flight.now }
+{
+    match flight.split_first() {
+        Some((first, others)) => {
+            if first.is_finished_once_placed(shard, upto) {
+                return leaving_placed(others, shard, upto) + 1;
             }
             0
         }

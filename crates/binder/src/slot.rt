@@ -2,7 +2,7 @@
 
 ghost use Rattle.std.specs.Prelude.{◌≡◌, ◌+◌, ◌<◌, ◌==◌, if◌then◌else◌, IfOk};
 ghost use Rattle.lazy_rules.specs.Flight.{new_batch, has_all, is_finished, is_placing_to, is_ordering_to, lacks_place, lacks_order, now_ordering, order_noted, place_noted};
-ghost use Rattle.binder.specs.Binding.{outline};
+ghost use Rattle.binder.specs.Binding.{once_placed, outline};
 
 use crate::answers::Answers;
 use crate::batch::Batch;
@@ -29,21 +29,6 @@ impl Model for Slot {
       shards = a.placed.count;
       followers = a.ordered.count;
     } };
-}
-
-/// A clone has the same answers, and room for all.
-impl Clone for Slot {
-    ghost is_clone = { λ a b. b ≡ a };
-
-    fn clone(&self) -> Result<Self, AllocError> {
-        Ok(Slot {
-            from: self.from,
-            count: self.count,
-            ordering: self.ordering,
-            placed: self.placed.clone()?,
-            ordered: self.ordered.clone()?,
-        })
-    }
 }
 
 impl Slot {
@@ -116,6 +101,39 @@ impl Slot {
         ensures { result ≡ lacks_order self.now.batch follower }
     {
         !self.ordered.has(follower)
+    }
+
+    /// The batch is being placed, and ends at `upto`.
+    pub(crate) fn is_placing_to(&self, upto: u32) -> bool
+        ensures { result ≡ is_placing_to upto self.now.batch }
+    {
+        !self.ordering && self.ends_at(upto)
+    }
+
+    /// Every shard answered for it, once this one has, for all positions below `upto`.
+    pub(crate) fn is_placed_with(&self, shard: u32, upto: u32) -> bool
+        requires { shard < self.now.shards }
+        ensures { result ≡ has_all self.now.shards (place_noted upto shard self.now.batch).placed }
+    {
+        if self.is_placing_to(upto) {
+            return self.placed.are_all_with(shard);
+        }
+        self.placed.are_all()
+    }
+
+    /// It is finished, once this shard has answered for all positions below `upto` and it has passed
+    /// where it can.
+    pub(crate) fn is_finished_once_placed(&self, shard: u32, upto: u32) -> bool
+        requires { shard < self.now.shards }
+        ensures { result ≡ is_finished self.now.followers (once_placed self.now.shards upto shard self.now.batch) }
+    {
+        if self.ordering {
+            return self.ordered.are_all();
+        }
+        if !self.is_placed_with(shard, upto) {
+            return false;
+        }
+        self.ordered.are_none()
     }
 
     /// The batch is ordered, and ends at `upto`.

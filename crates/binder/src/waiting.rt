@@ -25,18 +25,6 @@ impl Model for Read {
     ghost view = { λ a. record { client = a.client; read = a.number; target = a.target } };
 }
 
-impl Clone for Read {
-    ghost is_clone = { λ a b. b ≡ a };
-
-    fn clone(&self) -> Result<Self, AllocError> {
-        Ok(Read {
-            client: self.client,
-            number: self.number,
-            target: self.target,
-        })
-    }
-}
-
 /// The reads. There is room for one of each client.
 #[derive(Drop)]
 pub(crate) struct Reads {
@@ -54,17 +42,6 @@ impl Model for Reads {
     ghost view = { λ a. a.waiting.items };
 
     ghost invariant = { λ a. IsRoster MAX_CLIENTS (clients a.waiting.items) (vec_capacity a.waiting) };
-}
-
-/// A clone has the same reads, and room for one of each client.
-impl Clone for Reads {
-    ghost is_clone = { λ a b. b ≡ a };
-
-    fn clone(&self) -> Result<Self, AllocError> {
-        let mut waiting = self.waiting.clone()?;
-        waiting.reserve((MAX_CLIENTS as usize).saturating_sub(waiting.len()))?;
-        Ok(Reads { waiting })
-    }
 }
 
 impl Reads {

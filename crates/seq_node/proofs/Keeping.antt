@@ -2,8 +2,8 @@
 use Rattle.std.proofs.Common.{◌≡◌, ℕ, ◌+◌, ◌-◌, ◌<◌, ◌≤◌, List, [], ◌∷◌, ◌++◌, true, length, sym, ap, subst, ◌∙◌, refl, arith}
 use Rattle.std.specs.Prelude.{Option, not, nat_lt}
 use Rattle.std.specs.List.{list_all}
-use Rattle.std.proofs.lemmas.List.{length-drop, length_push}
-use Rattle.std.proofs.lemmas.Bool.{and_parts, not-true, true≢false}
+use Rattle.std.proofs.lemmas.List.{length_push}
+use Rattle.std.proofs.lemmas.Bool.{and_parts, not-true}
 use Rattle.rec_id.specs.declared.item.Item.{Item}
 use Rattle.rec_id.specs.Identity.{Identity, has_id}
 use Rattle.lazy_msgs.specs.declared.limits.TheConstants.{PENDING_LIMIT}
@@ -12,9 +12,7 @@ use Rattle.lazy_rules.specs.Roles.{others_of, followers_of}
 use Rattle.lazy_rules.specs.SeqRules.{is_active, is_leader, is_following, with_item, with_bound}
 use Rattle.lazy_rules.specs.SeqState.{SeqState}
 use Rattle.seq_node.specs.Kept.{IsKept, Starts, AllKnown}
-use Rattle.seq_node.proofs.Known.{length-marked, known_now, all_still, all_push, all_drop, all_marked, known_filter}
-use Rattle.seq_node.specs.Ahead.{ahead, IsAhead}
-use Rattle.seq_node.specs.declared.lead.Lead.{Lead}
+use Rattle.seq_node.proofs.Known.{length-marked, known_now, all_still, all_push, all_marked, known_filter}
 
 -- a replica with nothing pending and nothing on its way
 pub kept_fresh : (s : SeqState) (room shards followers : ℕ) → length s.window ≡ s.shape.clients → room ≡ PENDING_LIMIT → shards ≡ length s.config.shards
@@ -75,16 +73,3 @@ module _ (s : SeqState) (room shards followers : ℕ) (kept : IsKept s room shar
   pub idle_follower : (view : ℕ) → is_following s view ≡ true → s.flight ≡ []
   idle_follower view follows =
       kept.idle (not-true (is_leader s) (and_parts (is_active s view) (not (is_leader s)) follows).1)
-
-  -- a leader keeps it where its rows come
-  pub kept_ahead : (l : Lead) → IsAhead s l → is_leader s ≡ true → IsKept (ahead s l) room l.binder.shards l.binder.followers
-  kept_ahead l is leads = record {
-    clients = kept.clients;
-    room_is = kept.room_is;
-    shards_are = is.shards;
-    followers_are = is.followers;
-    known = all_drop s.window (l.bound - s.bound) s.pending kept.known;
-    starts = is.starts;
-    ends = omega (arith, is.above, is.within, is.ends, length-drop (l.bound - s.bound) s.pending);
-    idle = λ follows. absurd (true≢false (sym leads ∙ follows));
-  }

@@ -20,12 +20,10 @@ use Rattle.lazy_rules.specs.Rows.{followed, joined, sends_all, stays, to_each}
 use Rattle.lazy_rules.specs.SeqRules.{has_positions, is_leader}
 use Rattle.lazy_rules.specs.SeqState.{SeqState}
 use Rattle.lazy_rules.specs.declared.limits.TheConstants.{FLIGHT_LIMIT}
-use Rattle.seq_node.specs.Ahead.{ahead, first_leaves, IsAhead, told}
 use Rattle.seq_node.specs.Beginning.{begun, next_begun, next_count, pending_end, with_begun}
 use Rattle.seq_node.specs.Kept.{IsKept, Starts}
-use Rattle.seq_node.specs.Leaving.{is_told, left_sends, room_once_left, told_in}
-use Rattle.seq_node.specs.declared.lead.Lead.{Lead}
-use Rattle.seq_node.proofs.Going.{chain_at, finishes_goes, finishes_stays, finishing_stays, long, made, places_same, starts_tail}
+use Rattle.seq_node.specs.Leaving.{first_leaves, is_told, left_sends, room_once_left, told, told_in}
+use Rattle.seq_node.proofs.Going.{ahead, chain_at, finishes_goes, finishes_stays, finishing_stays, IsAhead, Lead, long, made, places_same, starts_tail}
 use Rattle.seq_node.proofs.Noting.{end_same, long_same, starts_same}
 use Rattle.seq_node.proofs.Known.{all_drop}
 use Rattle.seq_node.proofs.Parts.{end_grows, part_next}
@@ -177,14 +175,14 @@ pub record IsGone (s : SeqState) (row : Row SeqState) (sends : List (ℕ × Msg)
   pub lead : Lead
   pub is : IsAhead s lead
   pub row_is : row ≡ sends_all (ahead s lead) sends
-  pub fewer : length lead.binder.flight + left ≡ count
-  pub end : flight_end lead.bound lead.binder.flight ≡ flight_end bound flight
-  pub past : lead.bound ≤ flight_end lead.bound lead.binder.flight
-  pub waits : (p : ℕ) → lead.bound ≤ p → waits_above lead.binder.probes p ≡ waits_above probes p
+  pub fewer : length lead.flight + left ≡ count
+  pub end : flight_end lead.bound lead.flight ≡ flight_end bound flight
+  pub past : lead.bound ≤ flight_end lead.bound lead.flight
+  pub waits : (p : ℕ) → lead.bound ≤ p → waits_above lead.probes p ≡ waits_above probes p
 
-module _ (s : SeqState) (shards followers : ℕ) (probes : List Probe) where
+module _ (s : SeqState) (probes : List Probe) where
   abbrev from_here : ℕ → ℕ → List Batch → Lead
-  from_here bound low flight = made bound shards followers flight (from_on low probes)
+  from_here bound low flight = made bound flight (from_on low probes)
 
   pub gone : (flight : List Batch) (bound low : ℕ) → IsAhead s (from_here bound low flight) → IsChain bound flight → low ≤ bound + 1
       → IsGone s (finishing (ahead s (from_here bound low flight)) flight)
@@ -213,8 +211,6 @@ module _ (s : SeqState) (shards followers : ℕ) (probes : List Probe) where
             let ends : flight_end upto xs ≤ s.bound + length s.pending = is.ends in
             let next : IsAhead s m = record {
               above = omega (arith, is.above, place);
-              shards = is.shards;
-              followers = is.followers;
               within = omega (arith, grows, ends);
               starts = starts;
               ends = ends;
@@ -318,11 +314,9 @@ module _ (s : SeqState) (room shards followers : ℕ) (kept : IsKept s room shar
   pub gone_noted : IsGone s (finishing noted flight) told_left s.probes s.bound (length flight) count_left flight
   gone_noted =
       let chain : IsChain s.bound flight = chain_same s.bound flight s.flight same (chain_at s.flight s.bound sound kept.starts) in
-      let l : Lead = made s.bound (length s.config.shards) (length (followers_of s.config)) flight (from_on 0 s.probes) in
+      let l : Lead = made s.bound flight (from_on 0 s.probes) in
       let is : IsAhead s l = record {
         above = omega arith;
-        shards = refl;
-        followers = refl;
         within = omega arith;
         starts = starts_same flight s.flight s.bound same kept.starts;
         ends = omega (arith, kept.ends, end_same flight s.flight s.bound same);
@@ -332,7 +326,7 @@ module _ (s : SeqState) (room shards followers : ℕ) (kept : IsKept s room shar
       let with_parts : ℕ → List Probe → SeqState = λ k p. record s { pending = drop k s.pending; flight = flight; probes = p } in
       let here : ahead s l ≡ noted = ap (λ (k : ℕ). with_parts k (from_on 0 s.probes)) none ∙ ap (with_parts 0) (from_first s.probes) in
       subst (λ (x : SeqState). IsGone s (finishing x flight) told_left s.probes s.bound (length flight) count_left flight) here
-      (gone s (length s.config.shards) (length (followers_of s.config)) s.probes flight s.bound 0 is chain (omega arith))
+      (gone s s.probes flight s.bound 0 is chain (omega arith))
 
   -- it is a leader as before, and has the same items
   pub left_leads : is_leader s ≡ true → is_leader (finishing noted flight).next ≡ true
@@ -361,8 +355,8 @@ module _ (s : SeqState) (room shards followers : ℕ) (kept : IsKept s room shar
         let number : begins ≡ FLIGHT_LIMIT - (length s.flight - count_left) =
         begins_is ∙ ap (λ (b : Bool). cond b 0 (FLIGHT_LIMIT - (length s.flight - count_left))) (ne_eqb count_left 0 (λ is. absurd (omega (arith, is, left)))) in
         let few : length s.flight ≤ FLIGHT_LIMIT = sound.few in
-        let all : length g.lead.binder.flight + count_left ≡ length s.flight = omega (arith, g.fewer, long_same flight s.flight same) in
-        let room_is : FLIGHT_LIMIT - length g.lead.binder.flight ≡ begins = omega (arith, number, all) in
+        let all : length g.lead.flight + count_left ≡ length s.flight = omega (arith, g.fewer, long_same flight s.flight same) in
+        let room_is : FLIGHT_LIMIT - length g.lead.flight ≡ begins = omega (arith, number, all) in
         let end_is : pending_end y ≡ pending_end s = omega (arith, long s g.lead g.is, g.is.above, g.is.within) in
         let place : flight_end y.bound y.flight ≡ from = g.end ∙ end_same flight s.flight s.bound same ∙ sym from_is in
         let waits : (p : ℕ) → y.bound ≤ p → p < pending_end y → waits_above y.probes p ≡ ltb p limit = λ p above below. g.waits p above ∙ waiting p (omega (arith, below, end_is)) in

@@ -8,3 +8,4 @@ pub mod Going
 pub mod Noting
 pub mod Beginning
 pub mod Leaving
+pub mod PassingOn

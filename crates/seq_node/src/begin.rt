@@ -3,16 +3,14 @@
 ghost use Rattle.std.specs.Prelude.{◌≡◌, ◌+◌, ◌^◌, ◌<◌, ◌≤◌, ◌++◌, flat_map, length, true, IfOk};
 ghost use Rattle.lazy_msgs.specs.Step.{StepsTo};
 ghost use Rattle.lazy_rules.specs.Flight.{flight_end, new_batch};
-ghost use Rattle.lazy_rules.specs.Leading.{begins, place_sends};
+ghost use Rattle.lazy_rules.specs.Leading.{place_sends};
 ghost use Rattle.lazy_rules.specs.Rows.{sends_all};
 ghost use Rattle.lazy_rules.specs.SeqRules.{has_positions, is_leader};
 ghost use Rattle.lazy_rules.specs.declared.limits.TheConstants.{FLIGHT_LIMIT};
-ghost use Rattle.seq_node.specs.Ahead.{ahead, Goes, IsAhead};
 ghost use Rattle.seq_node.specs.Batches.{IsWithin};
 ghost use Rattle.seq_node.specs.Beginning.{begun, pending_end, room_for_one, with_begun};
 
 use crate::SeqNode;
-use crate::lead::Lead;
 use binder::Binder;
 use lazy_msgs::{BATCH_LIMIT, Outbox, SendList, StepRefused};
 use lazy_rules::FLIGHT_LIMIT;
@@ -132,25 +130,6 @@ impl SeqNode {
     {
         out.put(sends, Sequence::new(self.alloc))?;
         self.begin(room, limit);
-        Ok(())
-    }
-
-    /// Begins the next batch.
-    pub(crate) fn begin_next(&self, lead: &mut Lead, sends: &mut SendList) -> Result<(), AllocError>
-        requires { IsAhead self.now lead.old }
-        ensures { IfOk result (λ _. Goes self.now (begins (ahead self.now lead.old)) lead.new sends.old sends.new) }
-    {
-        let from = lead.end();
-        let rest = self.pending_end() - from;
-        if lead.binder.flight() >= FLIGHT_LIMIT {
-            return Ok(());
-        }
-        if rest == 0 {
-            return Ok(());
-        }
-        let count = rest.min(BATCH_LIMIT);
-        self.add_new(from, count, sends)?;
-        lead.binder.begin(from, count);
         Ok(())
     }
 }

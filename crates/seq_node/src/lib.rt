@@ -14,7 +14,6 @@ mod begin;
 mod door;
 mod finish;
 mod force;
-mod lead;
 mod new_view;
 mod node;
 mod order;

@@ -6,8 +6,7 @@ use Rattle.lazy_rules.specs.Flight.{Batch, batch_end, new_batch}
 use Rattle.lazy_rules.specs.Roles.{replicas_of}
 use Rattle.lazy_rules.specs.Rows.{to_each}
 use Rattle.lazy_rules.specs.SeqState.{SeqState}
-use Rattle.seq_node.specs.Ahead.{told}
-use Rattle.seq_node.specs.Leaving.{left_sends, told_in}
+use Rattle.seq_node.specs.Leaving.{left_sends, told, told_in}
 use Rattle.seq_node.proofs.Leaving.{end_is, left_next}
 use Rattle.seq_node.proofs.Parts.{part_ended}
 use Rattle.seq_node.proofs.Sends.{moved, ended}

@@ -3,8 +3,7 @@ use Rattle.std.proofs.lemmas.List.{drop_all}
 use Rattle.std.proofs.lemmas.Option.{slice_get-get_or}
 use Rattle.lazy_rules.specs.Flight.{Probe}
 use Rattle.lazy_rules.specs.SeqState.{SeqState}
-use Rattle.seq_node.specs.Ahead.{told}
-use Rattle.seq_node.specs.Leaving.{told_in}
+use Rattle.seq_node.specs.Leaving.{told, told_in}
 use Rattle.seq_node.proofs.Leaving.{told_drop}
 use Rattle.seq_node.proofs.Sends.{moved, ended}
 use Rattle.seq_node.proofs.node.SeqNode.add_told.Goals as goal

@@ -1,6 +1,5 @@
 use Rattle.std.proofs.Common.{◌≡◌, ◌++◌, drop}
-use Rattle.seq_node.specs.Ahead.{told}
-use Rattle.seq_node.specs.Leaving.{told_in}
+use Rattle.seq_node.specs.Leaving.{told, told_in}
 use Rattle.seq_node.proofs.node.SeqNode.add_told.Given as goal
 
 abbrev pub invariant-loop-i : goal.invariant-loop-i

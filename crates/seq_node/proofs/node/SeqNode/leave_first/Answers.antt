@@ -5,7 +5,7 @@ use Rattle.pending_log.specs.Pending.{Pending}
 use Rattle.lazy_rules.specs.Flight.{finish, waiting_probes}
 use Rattle.lazy_rules.specs.Roles.{followers_of}
 use Rattle.lazy_rules.specs.SeqState.{SeqState}
-use Rattle.seq_node.specs.Ahead.{first_leaves}
+use Rattle.seq_node.specs.Leaving.{first_leaves}
 use Rattle.seq_node.specs.NodeView.{seq_of}
 use Rattle.seq_node.proofs.Leaving.{kept_without, leaves_first, without}
 use Rattle.seq_node.proofs.node.SeqNode.leave_first.Goals as goal
