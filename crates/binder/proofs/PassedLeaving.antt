@@ -1,5 +1,5 @@
 -- How many batches leave once a shard's answer is noted and batches have passed.
-use Rattle.std.proofs.Common.{◌≡◌, ℕ, suc, List, ◌∷◌, Bool, true, false, not, ◌&&◌, cond, eqb, subst, ◌+◌, arith, inl, inr, sym, ap, ◌∙◌, refl}
+use Rattle.std.proofs.Common.{◌≡◌, ℕ, suc, List, ◌∷◌, Bool, true, false, not, ◌&&◌, cond, eqb, subst, inl, inr, sym, ap, ◌∙◌, refl}
 use Rattle.std.proofs.lemmas.Bool.{cases_Bool, cond_both}
 use Rattle.lazy_rules.specs.Flight.{Batch, answered_by, batch_end, has_all, is_finished, is_placing_to, now_ordering, passed, place_noted, with_place}
 use Rattle.binder.specs.Binding.{leaving, once_placed}

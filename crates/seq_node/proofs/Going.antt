@@ -9,7 +9,7 @@ use Rattle.binder.specs.Sound.{IsChain, IsFlight}
 use Rattle.rec_id.specs.declared.item.Item.{Item}
 use Rattle.lazy_msgs.specs.declared.msg.Msg.TheVariants.{Place}
 use Rattle.lazy_rules.specs.Flight.{Batch, Probe, finish, flight_end, is_finished, lacks_place, new_batch}
-use Rattle.lazy_rules.specs.Leading.{begins, finishes_from, finishing, forces, leaves, place_sends}
+use Rattle.lazy_rules.specs.Leading.{finishes_from, finishing, forces, leaves, place_sends}
 use Rattle.lazy_rules.specs.Roles.{first_of, followers_of}
 use Rattle.lazy_rules.specs.Items.{items_for}
 use Rattle.lazy_rules.specs.Rows.{each_numbered, followed, stays, to_each}

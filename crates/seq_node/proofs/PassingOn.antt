@@ -94,5 +94,5 @@ module _ (s : SeqState) (shards shard upto : ℕ) (flight : List Batch) (i : ℕ
     get_or flight i (new_batch 0 0),
     slice_get-get_or flight i (new_batch 0 0) inside,
     ap (pass_sends s shards shard upto) (split_at flight i (new_batch 0 0) inside)
-    ∙ passes_here s shards shard upto (get_or flight i (new_batch 0 0)) (drop (i + 1) flight) (first_is seen inside is ∙ placing) (all_is all inside placed ∙ whole),
+        ∙ passes_here s shards shard upto (get_or flight i (new_batch 0 0)) (drop (i + 1) flight) (first_is seen inside is ∙ placing) (all_is all inside placed ∙ whole),
   )

@@ -1,4 +1,4 @@
-use Rattle.std.proofs.Common.{◌≡◌, sym, ◌∙◌, subst, arith}
+use Rattle.std.proofs.Common.{sym, ◌∙◌, subst, arith}
 use Rattle.binder.specs.Held.{AllFor}
 use Rattle.binder.proofs.PassedLeaving.{placed_next}
 use Rattle.binder.proofs.flight.+leaving_placed.Goals as goal

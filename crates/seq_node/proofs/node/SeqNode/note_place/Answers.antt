@@ -1,7 +1,6 @@
-use Rattle.std.proofs.Common.{◌≡◌, ℕ, [], ◌++◌, List, Bool, true, cond, not, length, take, append_assoc, ap, ◌∙◌, sym, subst, arith}
+use Rattle.std.proofs.Common.{◌≡◌, ℕ, ◌++◌, List, Bool, true, cond, not, length, take, append_assoc, ap, ◌∙◌, sym, subst, arith}
 use Rattle.std.specs.Prelude.{flat_map}
 use Rattle.binder.specs.Binding.{leaving}
-use Rattle.binder.proofs.Chains.{SameSpans}
 use Rattle.lazy_msgs.specs.declared.msg.Msg.{Msg}
 use Rattle.lazy_msgs.specs.declared.refused.StepRefused.TheVariants.{Over}
 use Rattle.lazy_msgs.specs.Step.{Row, StepsTo}

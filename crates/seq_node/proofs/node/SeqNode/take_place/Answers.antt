@@ -1,4 +1,4 @@
-use Rattle.std.proofs.Common.{◌≡◌, ℕ, List, Bool, true, cond, length, ap, sym, ◌∙◌}
+use Rattle.std.proofs.Common.{◌≡◌, ℕ, List, Bool, true, cond, length, ap, ◌∙◌}
 use Rattle.binder.specs.Binding.{Binding, placed_flight}
 use Rattle.lazy_rules.specs.Flight.{Batch, has_placing, passed, with_place}
 use Rattle.lazy_rules.specs.SeqState.{SeqState}
