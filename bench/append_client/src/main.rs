@@ -171,12 +171,11 @@ impl Client {
         let Some(append) = &mut self.slots[slot] else {
             return Ok(());
         };
-        let mut acked = append.acked.clone();
-        if !acked.contains(&from) {
-            acked.push(from);
-        }
-        if !self.seq.iter().all(|node| acked.contains(node)) {
-            append.acked = acked;
+        let has = |node: &u32| *node == from || append.acked.contains(node);
+        if !self.seq.iter().all(has) {
+            if !append.acked.contains(&from) {
+                append.acked.push(from);
+            }
             return Ok(());
         }
         out.put(Vec::new(), vec![Event::Acked(id)])?;
