@@ -1,4 +1,7 @@
 //! Fields of several parts. What owns memory takes exactly what it keeps.
+//!
+//! The members of lists are read from a slice of their own, and `left` is set once behind them: what is
+//! behind a reference is written to memory at each part.
 
 ghost use Rattle.wire_frames.specs.Readers.{Gives, id_at, size_at, bytes_at, optional_at, item_at, body_at, cell_at, entry_at, placed_at};
 
@@ -88,8 +91,10 @@ pub fn item_of(
 ) -> Result<Item, FrameError>
     ensures { Gives result left.new.now (item_at edition size left.old.now) }
 {
-    let id = id_of(size, left)?;
-    let bytes = optional_of(alloc, edition, size, left)?;
+    let mut rest = *left;
+    let id = id_of(size, &mut rest)?;
+    let bytes = optional_of(alloc, edition, size, &mut rest)?;
+    *left = rest;
     Ok(Item { id, bytes })
 }
 
@@ -125,8 +130,10 @@ pub fn cell_of(
 ) -> Result<Cell, FrameError>
     ensures { Gives result left.new.now (cell_at edition size left.old.now) }
 {
-    let id = id_of(size, left)?;
-    let body = body_of(alloc, edition, size, left)?;
+    let mut rest = *left;
+    let id = id_of(size, &mut rest)?;
+    let body = body_of(alloc, edition, size, &mut rest)?;
+    *left = rest;
     Ok(Cell { id, body })
 }
 
@@ -162,7 +169,9 @@ pub fn placed_of(
 ) -> Result<(u32, Entry), FrameError>
     ensures { Gives result left.new.now (placed_at edition size left.old.now) }
 {
-    let place = four_of(left)?;
-    let entry = entry_of(alloc, edition, size, left)?;
+    let mut rest = *left;
+    let place = four_of(&mut rest)?;
+    let entry = entry_of(alloc, edition, size, &mut rest)?;
+    *left = rest;
     Ok((place, entry))
 }
