@@ -17,8 +17,6 @@ mod rejected;
 mod resending;
 mod sending;
 mod step;
-#[cfg(test)]
-mod tests;
 mod tick;
 mod view_is;
 

@@ -23,8 +23,6 @@ mod peek;
 mod places;
 mod refused;
 mod snapshot;
-#[cfg(test)]
-mod tests;
 mod trail;
 mod turns;
 mod world;

@@ -12,8 +12,6 @@ mod load_step;
 mod nodes;
 mod schedule;
 mod summary_line;
-#[cfg(test)]
-mod tests;
 
 pub use counts::Counts;
 pub use limits::{STEPS, SUSPICION_STEP};

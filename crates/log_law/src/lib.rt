@@ -17,8 +17,6 @@ mod reads;
 mod records;
 mod slices;
 mod tails;
-#[cfg(test)]
-mod tests;
 mod told;
 mod trims;
 mod unique;

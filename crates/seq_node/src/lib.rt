@@ -25,8 +25,6 @@ mod roles;
 mod seal;
 mod stable;
 mod step;
-#[cfg(test)]
-mod tests;
 mod tick;
 
 pub use node::SeqNode;

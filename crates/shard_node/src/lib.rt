@@ -21,8 +21,6 @@ mod seat;
 mod sending;
 mod stable;
 mod step;
-#[cfg(test)]
-mod tests;
 mod trim;
 
 pub use node::ShardNode;

@@ -19,6 +19,3 @@ mod settling;
 mod store;
 
 pub use store::ShardStore;
-
-#[cfg(test)]
-mod tests;

@@ -11,4 +11,3 @@ pub mod Claiming
 pub mod Closing
 pub mod Rows
 pub mod Ending
-pub mod Fours

@@ -6,4 +6,3 @@ pub mod Told
 pub mod Ends
 pub mod Claiming
 pub mod Keeping
-pub mod Fours

@@ -12,8 +12,6 @@ mod peeker;
 mod plays;
 mod publisher;
 mod rule;
-#[cfg(test)]
-mod tests;
 mod views;
 
 pub use claim::BoardClaim;

@@ -22,6 +22,3 @@ mod tick;
 
 pub use controller::Controller;
 pub use phase::CtlPhase;
-
-#[cfg(test)]
-mod tests;

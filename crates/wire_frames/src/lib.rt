@@ -3,6 +3,7 @@
 //!
 //! The form of a frame stands in words with the messages; `specs/Readers.antt` says how bytes are read
 //! from left to right, and with which offence they are refused. Nothing here sends or keeps a frame.
+//! Its tests stand in the crate `worked_cases`, so that this one is proved once.
 #![tactic(auto)]
 
 mod laws;
@@ -18,6 +19,3 @@ pub use limits::fits;
 pub use offence::FrameError;
 pub use reading::{decode, read_again};
 pub use writing::encode;
-
-#[cfg(test)]
-mod tests;

@@ -2,12 +2,12 @@
 
 ghost use Rattle.std.specs.Prelude.{◌≡◌, ◌+◌, ◌<◌, ℕ, [], ◌∷◌, IfOk};
 ghost use Rattle.stable_board.specs.Keeping.{IsRow};
-ghost use Rattle.stable_board.specs.Fours.{AreWriters, AreNumbered, AreNew, AreReaders, IsSameWriter, AreSameWriters, IsSameReader, AreSameReaders};
+ghost use Rattle.worked_cases.specs.Fours.{AreWriters, AreNumbered, AreNew, AreReaders, IsSameWriter, AreSameWriters, IsSameReader, AreSameReaders};
 
-use crate::{BoardClaim, Claimed, Keeper, Peeker, Publisher, board};
 use plain_lists::Sequence;
 use rec_id::{Item, ItemList, RecordId};
 use shard_store::ShardStore;
+use stable_board::{BoardClaim, Claimed, Keeper, Peeker, Publisher, board};
 use std::alloc::Global;
 use std::test::Fail;
 use std::thread::{Threads, join};

@@ -1,5 +1,5 @@
-use Rattle.stable_board.specs.Fours.{IsSameReader}
-use Rattle.stable_board.proofs.tests.look.Given as goal
+use Rattle.worked_cases.specs.Fours.{IsSameReader}
+use Rattle.worked_cases.proofs.boards.look.Given as goal
 
 abbrev pub invariant-loop-peek : goal.invariant-loop-peek
 invariant-loop-peek l = IsSameReader l.fn.peeker l.peeker

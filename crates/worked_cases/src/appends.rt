@@ -1,11 +1,9 @@
 //! Worked rows, as tables of inputs with what each sends and tells.
 
-use crate::open_appends::OpenAppends;
-use crate::{AppendClient, AppendState};
+use append_client::{AppendClient, AppendState};
 use lazy_msgs::{Envelope, Input, Msg, Outbox, PostRefused, StepRefused};
 use rec_id::{Bytes, Event, RecordId};
 use std::alloc::Global;
-use std::collections::VecDeque;
 use std::process::Abort;
 use std::test::Fail;
 use view_config::{Config, Edition, Mode, Shape};
@@ -208,21 +206,5 @@ fn fills_its_window_round_a_hole(rt: HostRuntime) -> Result<(), Fail> {
         client.step(&Input::Tick, &mut small),
         Err(StepRefused::Over)
     );
-    Ok(())
-}
-
-#[test]
-fn gives_no_number_past_the_last(rt: HostRuntime) -> Result<(), Fail> {
-    let shape = Shape::of(Edition::One, Mode::M, 1, 0, 1, 1, 1).ok_or("a shape")?;
-    let mut client = first(rt.alloc(), &shape)?;
-    client.appends = OpenAppends {
-        first: u32::MAX,
-        slots: VecDeque::new(rt.alloc()),
-    };
-    assert_eq!(rt; client.client(), 0);
-    assert_eq!(rt; client.post_refusal(1), Some(PostRefused::NumbersSpent));
-    assert_eq!(rt; client.post_refusal(4_097), Some(PostRefused::TooLong));
-    takes(rt.alloc(), &shape, &mut client, Do::Post, "")?;
-    assert_eq!(rt; client.state(u32::MAX), AppendState::NotInvoked);
     Ok(())
 }

@@ -2,7 +2,7 @@
 
 mod broken;
 
-use crate::verdict::{Verdict, check};
+use log_law::{Verdict, check};
 use plain_lists::Sequence;
 use rec_id::{Ask, Bytes, Entry, Event, Line, RecordId};
 use std::alloc::Global;

@@ -1,4 +1,4 @@
--- Four ends of each kind, for tests.
+-- Four ends of each kind of a board.
 use Rattle.std.specs.Prelude.{◌≡◌, []}
 use Rattle.atomic_table.specs.Seated.{TableId}
 use Rattle.stable_board.specs.Ends.{PublisherEnd, PeekerEnd}

@@ -1,6 +1,6 @@
 //! Worked runs of a world, as tables of events with how each ends.
 
-use crate::{LineError, Note, Trail, World};
+use lazy_core::{LineError, Note, Trail, World};
 use lazy_msgs::{EventRefused, SuspectRefused, TrimRefused, WorldEvent};
 use rec_id::{Ask, Bytes};
 use std::alloc::Global;

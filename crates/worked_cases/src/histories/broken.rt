@@ -11,7 +11,7 @@
 //! An entry is an append and its bytes, or `-` for a no-op and `.` for one that is gone. Appends a and
 //! c are of client 0, b is of client 1.
 
-use crate::verdict::{Verdict, check};
+use log_law::{Verdict, check};
 use plain_lists::Sequence;
 use rec_id::{Ask, Bytes, Entry, Event, IdList, Line, RecordId};
 use std::alloc::Global;

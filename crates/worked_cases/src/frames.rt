@@ -2,7 +2,6 @@
 
 mod decoding;
 
-use super::*;
 use lazy_msgs::{Envelope, Msg};
 use rec_id::{
     Body, Bytes, Cell, CellList, Entry, IdList, Item, ItemList, Marks, PlacedList, RecordId,
@@ -12,6 +11,7 @@ use std::alloc::{AllocError, Global};
 use std::process::Abort;
 use std::test::Fail;
 use view_config::{Config, Edition, NodeList, ShardList};
+use wire_frames::{FrameError, decode, encode, fits, read_again};
 
 /// Of each kind the fields in edition One and in edition Two, as far as the marks of its window,
 /// then how many bytes of the marks follow that are 0, in both, and what stands behind them.

@@ -1,5 +1,5 @@
-use Rattle.stable_board.proofs.Fours.{new_writers, new_readers}
-use Rattle.stable_board.proofs.tests.open.Goals as goal
+use Rattle.worked_cases.proofs.Fours.{new_writers, new_readers}
+use Rattle.worked_cases.proofs.boards.open.Goals as goal
 
 pub returns-clause-writers : goal.returns-clause-writers
 returns-clause-writers c = new_writers _ _ (c.in_ok-writers.ensures _ c.in_ok-keeper.ensures.writers_are)

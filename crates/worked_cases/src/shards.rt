@@ -1,9 +1,9 @@
 //! Worked rows of a shard replica, in both modes.
 
-use crate::ShardNode;
 use lazy_msgs::{Envelope, Input, Msg, Outbox};
 use plain_lists::Sequence;
 use rec_id::{Body, Bytes, Cell, CellList, Item, ItemList, RecordId};
+use shard_node::ShardNode;
 use std::alloc::Global;
 use std::test::Fail;
 use view_config::{Config, Mode, Shape};

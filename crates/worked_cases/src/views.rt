@@ -1,7 +1,5 @@
 //! Worked rows, as tables of inputs with what each sends.
 
-use crate::stage::Stage;
-use crate::{Controller, CtlPhase};
 use lazy_msgs::{Envelope, Input, Msg, Outbox, SendList, StepRefused, SuspectRefused};
 use plain_lists::Sequence;
 use rec_id::{Bytes, Item, ItemList, Marks, RecordId, WindowList};
@@ -9,6 +7,7 @@ use std::alloc::Global;
 use std::process::Abort;
 use std::test::Fail;
 use view_config::{CONTROLLER, Mode, Shape};
+use view_ctl::{Controller, CtlPhase};
 
 /// What happens to the controller. A message has its sender first, and then its view.
 #[derive(Clone, Copy)]
@@ -332,20 +331,5 @@ fn suspicions_are_refused_in_order(rt: HostRuntime) -> Result<(), Fail> {
     }
     assert_eq!(rt; controller.started().map(|config| config.view), Some(1));
     assert!(rt; controller.taken().is_none());
-    Ok(())
-}
-
-#[test]
-fn the_last_view_has_no_next(rt: HostRuntime) -> Result<(), Fail> {
-    let shape = Shape::new(Mode::M, 2, 0, 1, 1, 1).ok_or("a shape")?;
-    let mut controller = Controller::new(rt.alloc(), &shape)?;
-    let mut out = Outbox::new(rt.alloc(), 9, 1_000_000);
-    if let Stage::Running(reign) = &mut controller.stage {
-        reign.config.view = 0xffff_ffff;
-    }
-    assert_eq!(rt;
-        controller.suspect(258, &mut out),
-        Err(SuspectRefused::ViewsSpent)
-    );
     Ok(())
 }

@@ -2,9 +2,9 @@
 
 ghost use Rattle.std.specs.Prelude.{◌≡◌, ◌≤◌, length, IfOk};
 
-use crate::ShardStore;
 use plain_lists::Sequence;
 use rec_id::{Body, Bytes, Cell, CellList, Item, ItemList, RecordId};
+use shard_store::ShardStore;
 use std::alloc::Global;
 use std::test::Fail;
 use view_config::Mode;

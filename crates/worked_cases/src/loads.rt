@@ -1,8 +1,8 @@
 //! The words of a seed and the steps that they draw, worked out by hand, and a whole load.
 
-use crate::{Load, LoadGen, LoadStep, Outcome, summary};
 use lazy_core::World;
 use lazy_msgs::WorldEvent;
+use load_gen::{Load, LoadGen, LoadStep, Outcome, summary};
 use rand_core::SeedableRng;
 use rand_core::utils::NextWord;
 use rand_pcg::Pcg32;

@@ -4,7 +4,7 @@ use Rattle.std.specs.Prelude.{slice_get}
 use Rattle.atomic_table.specs.Seated.{TableId}
 use Rattle.stable_board.specs.Ends.{PublisherEnd, PeekerEnd, KeeperEnd}
 use Rattle.stable_board.specs.Keeping.{AreAll, IsWriter, IsReader, new_publisher_end, new_peeker_end}
-use Rattle.stable_board.specs.Fours.{AreWriters, AreReaders, AreNew}
+use Rattle.worked_cases.specs.Fours.{AreWriters, AreReaders, AreNew}
 
 module _ {A : Type 0} (P : ℕ → A → Type 0) (a b c d : A) where
   at_four : (row : List A) → row ≡ a ∷ b ∷ c ∷ d ∷ [] → P 0 a → P 1 b → P 2 c → P 3 d → (n : ℕ) (x : A) → slice_get row n ≡ Some x → P n x

@@ -1,4 +1,4 @@
-use Rattle.stable_board.proofs.tests.four.Goals as goal
+use Rattle.worked_cases.proofs.boards.four.Goals as goal
 
 pub returns : goal.returns
 returns g c made row =

@@ -1,10 +1,10 @@
 //! Worked rows of a sequencing replica: what comes, and what is sent then.
 
-use crate::SeqNode;
 use lazy_msgs::{Envelope, Input, Msg, Outbox};
 use plain_lists::Sequence;
 use rec_id::{IdList, RecordId, WindowList};
 use seen_window::SeenWindow;
+use seq_node::SeqNode;
 use std::alloc::Global;
 use std::test::Fail;
 use view_config::{Config, Mode, Shape};
