@@ -6,6 +6,7 @@ ghost use Rattle.lazy_msgs.specs.Step.{StepsTo};
 ghost use Rattle.lazy_rules.specs.ClientRules.{client_took, on_append_ack};
 
 use crate::client::AppendClient;
+use crate::nodes::has_node;
 use lazy_msgs::{Outbox, StepRefused};
 use rec_id::RecordId;
 
@@ -26,7 +27,7 @@ impl AppendClient {
         if id.client() != self.client {
             return Ok(());
         }
-        if !self.config.seq.as_slice().contains(&sender) {
+        if !has_node(self.config.seq.as_slice(), sender) {
             return Ok(());
         }
         self.acknowledged(sender, id, out)

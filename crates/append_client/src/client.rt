@@ -7,6 +7,7 @@ ghost use Rattle.lazy_rules.specs.ClientRules.{is_complete, noted, with_node};
 ghost use Rattle.lazy_rules.specs.Rows.{has_node};
 ghost use Rattle.append_client.specs.AppendState.{append_state};
 
+use crate::nodes::has_node;
 use crate::open_append::OpenAppend;
 use crate::open_appends::OpenAppends;
 use crate::sending::data_nodes;
@@ -49,7 +50,7 @@ impl Model for AppendClient {
 fn is_acked(acked: &[u32], more: u32, node: u32) -> bool
     ensures { result ≡ has_node (with_node acked.now more) node }
 {
-    node == more || acked.contains(&node)
+    node == more || has_node(acked, node)
 }
 
 /// All of these nodes are among those that acknowledged, with one more.

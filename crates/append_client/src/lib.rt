@@ -9,6 +9,7 @@ mod append_ack;
 mod client;
 mod data_ack;
 mod door;
+mod nodes;
 mod open_append;
 mod open_appends;
 mod post;

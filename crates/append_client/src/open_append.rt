@@ -5,6 +5,7 @@ ghost use Rattle.std.specs.Option.{option_map};
 ghost use Rattle.lazy_rules.specs.ClientRules.{noted, unacknowledged};
 ghost use Rattle.lazy_rules.specs.ClientState.{OpenAppend as Unfinished};
 
+use crate::nodes::has_node;
 use plain_lists::Sequence;
 use rec_id::Bytes;
 use std::alloc::{AllocError, Global};
@@ -78,7 +79,7 @@ impl OpenAppend {
         ensures ok { OnOk result (self.new ≡ noted self.old node) }
         ensures err { OnErr result (self.new ≡ self.old) }
     {
-        if self.acked.as_slice().contains(&node) {
+        if has_node(self.acked.as_slice(), node) {
             return Ok(());
         }
         self.acked.push(node)

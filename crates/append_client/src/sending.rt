@@ -7,6 +7,7 @@ ghost use Rattle.lazy_rules.specs.Rows.{has_node};
 ghost use Rattle.lazy_rules.specs.ClientRules.{carried, data_nodes, homes_of, sending};
 ghost use Rattle.append_client.specs.Sender.{sender};
 
+use crate::nodes::has_node;
 use lazy_msgs::{Msg, SendList};
 use rec_id::{Bytes, RecordId, shard_of};
 use std::alloc::AllocError;
@@ -28,7 +29,7 @@ fn homes<'a>(shape: &Shape, config: &'a Config, id: RecordId) -> &'a [u32]
 pub(crate) fn is_home(shape: &Shape, config: &Config, id: RecordId, node: u32) -> bool
     ensures { result ≡ has_node (homes_of (sender shape.now config.now id.client) id) node }
 {
-    homes(shape, config, id).contains(&node)
+    has_node(homes(shape, config, id), node)
 }
 
 /// The nodes that the record's data goes to by itself.
@@ -52,7 +53,7 @@ fn put_data(
     ensures { OnOk result (sends.new ≡ sends.old ++ map (λ node. (node, Put id bytes.now)) (filter (λ node. not (has_node acked.now node)) nodes.now)) }
 {
     for node in nodes {
-        if !acked.contains(node) {
+        if !has_node(acked, *node) {
             let bytes = bytes.clone()?;
             sends.push((*node, Msg::Put { id, bytes }))?;
         }
@@ -83,7 +84,7 @@ fn put_record(
     ensures { OnOk result (sends.new ≡ sends.old ++ map (λ node. (node, Append view id (carried mode bytes.now))) (filter (λ node. not (has_node acked.now node)) nodes.now)) }
 {
     for node in nodes {
-        if !acked.contains(node) {
+        if !has_node(acked, *node) {
             let bytes = carried(mode, bytes)?;
             sends.push((*node, Msg::Append { view, id, bytes }))?;
         }
