@@ -28,3 +28,4 @@ pub mod Walks
 pub mod Stepping
 pub mod ComesTo
 pub mod Placed
+pub mod Spending

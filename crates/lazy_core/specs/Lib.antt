@@ -12,3 +12,4 @@ pub mod Peeking
 pub mod Reached
 pub mod LinesOf
 pub mod Filled
+pub mod Spending

@@ -1,32 +1,16 @@
 -- Events applied, one by one.
-use Rattle.std.proofs.Common.{◌≡◌, ℕ, ◌+◌, ◌-◌, ◌<◌, List, [], ◌∷◌, length, Bool, true, false, not, ◌&&◌, Option, Some, None, refl, sym, ap, ◌∙◌, arith, suc}
-use Rattle.std.specs.Prelude.{nat_le, if◌then◌else◌}
+use Rattle.std.proofs.Common.{◌≡◌, ℕ, ◌+◌, ◌-◌, ◌<◌, List, [], ◌∷◌, Bool, true, false, not, ◌&&◌, Option, Some, None, refl, sym, ap, ◌∙◌, arith, suc}
+use Rattle.std.specs.Prelude.{if◌then◌else◌}
 use Rattle.std.specs.Option.{is_none}
-use Rattle.std.proofs.lemmas.Bool.{and_parts, and_from, leb-true, le-leb}
 use Rattle.lazy_msgs.specs.declared.input.WorldEvent.{WorldEvent}
 use Rattle.lazy_msgs.specs.declared.input.WorldEvent.TheVariants.{Deliver}
 use Rattle.lazy_msgs.specs.declared.refused.EventRefused.{EventRefused}
-use Rattle.lazy_rules.specs.WorldRules.{IsWithinLimits, after, accepted, happened, refusal, run, sent_weight}
-use Rattle.lazy_rules.specs.declared.limits.TheConstants.{MESSAGES_LIMIT, WEIGHT_LIMIT}
+use Rattle.lazy_rules.specs.WorldRules.{IsWithinLimits, after, accepted, happened, refusal, run}
 use Rattle.lazy_rules.specs.WorldState.{WorldState}
+use Rattle.lazy_core.specs.Spending.{is_spent, is_within}
+use Rattle.lazy_core.proofs.Spending.{beyond_false, within_true}
 use Rattle.lazylog_trace.specs.declared.apply.Outcome.TheVariants.{Through, Spent}
-use Rattle.lazylog_trace.specs.Apply.{Applies, Applied, led_to, deliveries, applied, until_spent, is_spent, is_within}
-
--- the limits, as a test
-within_true : (w : WorldState) → IsWithinLimits w → is_within w ≡ true
-within_true w h = and_from (nat_le (length w.sent) MESSAGES_LIMIT) (nat_le (sent_weight w.sent) WEIGHT_LIMIT) (le-leb (length w.sent) MESSAGES_LIMIT h.in_number) (le-leb (sent_weight w.sent) WEIGHT_LIMIT h.in_weight)
-
-true_within : (w : WorldState) → is_within w ≡ true → IsWithinLimits w
-true_within w h =
-    let parts = and_parts (nat_le (length w.sent) MESSAGES_LIMIT) (nat_le (sent_weight w.sent) WEIGHT_LIMIT) h in
-    record { in_number = leb-true (length w.sent) MESSAGES_LIMIT parts.0; in_weight = leb-true (sent_weight w.sent) WEIGHT_LIMIT parts.1 }
-
-beyond_false : (w : WorldState) → ¬ IsWithinLimits w → is_within w ≡ false
-beyond_false w h = by (is_within w) refl
-  where
-    by : (b : Bool) → is_within w ≡ b → b ≡ false
-    by true e = absurd (h (true_within w e))
-    by false e = refl
+use Rattle.lazylog_trace.specs.Apply.{Applies, Applied, led_to, deliveries, applied, until_spent}
 
 -- one event
 one_applied : (w : WorldState) (event : WorldEvent) → is_spent w event ≡ false → applied w (event ∷ []) ≡ led_to (happened w event) false

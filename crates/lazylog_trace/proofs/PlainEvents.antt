@@ -16,7 +16,8 @@ use Rattle.trace_script.specs.Spelling.{IsSayable}
 use Rattle.trace_script.proofs.Lacks.{visible_lacks}
 use Rattle.trace_script.proofs.Newlines.{IsFlat}
 use Rattle.lazylog_trace.specs.Actions.{at_node}
-use Rattle.lazylog_trace.specs.Apply.{action_events, events_of, is_spent, until_spent}
+use Rattle.lazy_core.specs.Spending.{is_spent}
+use Rattle.lazylog_trace.specs.Apply.{action_events, events_of, until_spent}
 
 abbrev pub IsPlain : WorldEvent → Type 0
 IsPlain (world.Post client bytes) = IsFlat bytes

@@ -1,13 +1,12 @@
-use Rattle.std.specs.Prelude.{◌≡◌, ℕ, ◌+◌, ◌^◌, ◌≤◌, List, [], ◌∷◌, ◌++◌, length, map, drop, if◌then◌else◌, Bool, true, false, not, ◌&&◌, nat_le, Option, Some, None}
+use Rattle.std.specs.Prelude.{◌≡◌, ℕ, ◌+◌, ◌^◌, ◌≤◌, List, [], ◌∷◌, ◌++◌, length, map, drop, if◌then◌else◌, Bool, true, false, Option, Some, None}
 use Rattle.std.specs.List.{range_with_len}
-use Rattle.std.specs.Option.{is_none}
 use Rattle.lazy_msgs.specs.declared.input.WorldEvent.{WorldEvent}
 use Rattle.lazy_msgs.specs.declared.input.WorldEvent.TheVariants.{Deliver as DeliverEvent}
 use Rattle.lazy_msgs.specs.declared.refused.EventRefused.{EventRefused}
 use Rattle.lazy_rules.specs.Holders.{holders}
 use Rattle.lazy_rules.specs.WorldState.{WorldState}
-use Rattle.lazy_rules.specs.WorldRules.{after, happened, refusal, sent_weight}
-use Rattle.lazy_rules.specs.declared.limits.TheConstants.{MESSAGES_LIMIT, WEIGHT_LIMIT}
+use Rattle.lazy_rules.specs.WorldRules.{happened, refusal}
+use Rattle.lazy_core.specs.Spending.{is_spent}
 use Rattle.trace_script.specs.declared.command.Command.{Command}
 use Rattle.trace_script.specs.RefusalTexts.{refused_text, no_node_text}
 use Rattle.lazylog_trace.specs.declared.action.Action.{Action}
@@ -21,14 +20,6 @@ use Rattle.lazylog_trace.specs.Shown.{event_texts, holder_texts, message_shown, 
 -- and of what the history gained.
 
 -- The events.
-
--- the messages of the world are within its limits
-abbrev pub is_within : WorldState → Bool
-is_within w = nat_le (length w.sent) MESSAGES_LIMIT && nat_le (sent_weight w.sent) WEIGHT_LIMIT
-
--- the event isn't refused, but the world would send more than it may
-abbrev pub is_spent : WorldState → WorldEvent → Bool
-is_spent w event = is_none (refusal w event) && not (is_within (after w event))
 
 -- where a list of events led to: past all of them, or to one that is spent
 pub record Applied : Type 0 where

@@ -1,45 +1,29 @@
 -- Steps of a load: one event, one step, many steps.
-use Rattle.std.proofs.Common.{◌≡◌, ℕ, suc, ◌+◌, ◌-◌, ◌<◌, List, [], ◌∷◌, ◌++◌, length, append_assoc, append-nil, Bool, true, false, not, ◌&&◌, Option, Some, None, refl, sym, ap, ◌∙◌, subst, arith}
+use Rattle.std.proofs.Common.{◌≡◌, ℕ, suc, ◌+◌, ◌-◌, ◌<◌, List, [], ◌∷◌, ◌++◌, append_assoc, append-nil, Bool, true, false, not, ◌&&◌, Option, Some, None, refl, sym, ap, ◌∙◌, subst, arith}
 use Rattle.std.specs.Prelude.{◌/◌, ◌%◌, ◌==◌, nat_le, if◌then◌else◌, Result, Ok, Err, decimal}
 use Rattle.std.specs.Option.{is_none}
-use Rattle.std.proofs.lemmas.Bool.{and_parts, and_from, leb-true, le-leb}
 use Rattle.list_facts.proofs.Cases.{either}
 use Rattle.list_facts.proofs.Members.{each_append}
 use Rattle.view_config.specs.Shape.{Dimensions}
 use Rattle.lazy_msgs.specs.declared.input.WorldEvent.{WorldEvent}
 use Rattle.lazy_msgs.specs.declared.input.WorldEvent.TheVariants.{Post}
 use Rattle.lazy_msgs.specs.declared.refused.EventRefused.{EventRefused}
-use Rattle.lazy_rules.specs.WorldRules.{IsWithinLimits, accepted, after, happened, refusal, run, sent_weight}
+use Rattle.lazy_rules.specs.WorldRules.{IsWithinLimits, accepted, after, happened, refusal, run}
 use Rattle.lazy_rules.specs.WorldState.{WorldState, first_world}
-use Rattle.lazy_rules.specs.declared.limits.TheConstants.{MESSAGES_LIMIT, WEIGHT_LIMIT}
 use Rattle.world_facts.specs.Turns.{ClientTurn, ControlTurn, CrashTurn, SeqTurn, ShardTurn, Turn, turned}
 use Rattle.world_facts.proofs.Runs.{run_append}
 use Rattle.world_facts.proofs.goes.Lost.{turn_of_run}
 use Rattle.lazy_core.specs.Happens.{Happens}
+use Rattle.lazy_core.specs.Spending.{is_within}
+use Rattle.lazy_core.proofs.Spending.{beyond_false, within_true}
 use Rattle.rand_pcg.specs.Pcg.{pcg32}
 use Rattle.load_gen.specs.declared.limits.TheConstants.{STEPS, SUSPICION_STEP}
 use Rattle.load_gen.specs.declared.load.Outcome.{Outcome}
 use Rattle.load_gen.specs.declared.load.Outcome.TheVariants.{Through, Spent}
 use Rattle.load_gen.specs.declared.load_step.LoadStep.{LoadStep}
 use Rattle.load_gen.specs.declared.load_step.LoadStep.TheVariants.{End, Make, Skip}
-use Rattle.load_gen.specs.Loading.{IsCalm, IsLed, IsUnderWay, Loaded, LoadState, Makes, behind, continued, continued_from, ended_as, event_made, goes_on, is_within, many_steps, one_step, stops, with_refusal}
+use Rattle.load_gen.specs.Loading.{IsCalm, IsLed, IsUnderWay, Loaded, LoadState, Makes, behind, continued, continued_from, ended_as, event_made, goes_on, many_steps, one_step, stops, with_refusal}
 use Rattle.load_gen.specs.Schedule.{Generator, drawn_event, drawn_step, next_step, other_event, step_with, suspicion}
-
--- the limits, as a test
-within_true : (w : WorldState) → IsWithinLimits w → is_within w ≡ true
-within_true w h = and_from (nat_le (length w.sent) MESSAGES_LIMIT) (nat_le (sent_weight w.sent) WEIGHT_LIMIT) (le-leb (length w.sent) MESSAGES_LIMIT h.in_number) (le-leb (sent_weight w.sent) WEIGHT_LIMIT h.in_weight)
-
-true_within : (w : WorldState) → is_within w ≡ true → IsWithinLimits w
-true_within w h =
-    let parts = and_parts (nat_le (length w.sent) MESSAGES_LIMIT) (nat_le (sent_weight w.sent) WEIGHT_LIMIT) h in
-    record { in_number = leb-true (length w.sent) MESSAGES_LIMIT parts.0; in_weight = leb-true (sent_weight w.sent) WEIGHT_LIMIT parts.1 }
-
-beyond_false : (w : WorldState) → ¬ IsWithinLimits w → is_within w ≡ false
-beyond_false w h = by (is_within w) refl
-  where
-    by : (b : Bool) → is_within w ≡ b → b ≡ false
-    by true e = absurd (h (true_within w e))
-    by false e = refl
 
 -- one event
 module _ (l : LoadState) (g : Generator) (event : WorldEvent) (new : WorldState) where

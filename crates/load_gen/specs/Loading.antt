@@ -1,13 +1,12 @@
-use Rattle.std.specs.Prelude.{◌≡◌, ℕ, zero, suc, ◌+◌, ◌≤◌, List, [], ◌∷◌, ◌++◌, length, Bool, not, ◌&&◌, nat_le, if◌then◌else◌, Option, Some, None, Result, Ok, Err}
-use Rattle.std.specs.Option.{is_none}
+use Rattle.std.specs.Prelude.{◌≡◌, ℕ, zero, suc, ◌+◌, ◌≤◌, List, [], ◌∷◌, ◌++◌, length, if◌then◌else◌, Option, Some, None, Result, Ok, Err}
 use Rattle.list_facts.specs.Lists.{Each}
 use Rattle.view_config.specs.Shape.{Dimensions, IsShape}
 use Rattle.lazy_msgs.specs.declared.input.WorldEvent.{WorldEvent}
 use Rattle.lazy_msgs.specs.declared.input.WorldEvent.TheVariants.{Crash}
 use Rattle.lazy_msgs.specs.declared.refused.EventRefused.{EventRefused}
 use Rattle.lazy_rules.specs.WorldState.{WorldState, first_world}
-use Rattle.lazy_rules.specs.WorldRules.{after, happened, refusal, run, sent_weight}
-use Rattle.lazy_rules.specs.declared.limits.TheConstants.{MESSAGES_LIMIT, WEIGHT_LIMIT}
+use Rattle.lazy_rules.specs.WorldRules.{after, happened, refusal, run}
+use Rattle.lazy_core.specs.Spending.{is_spent}
 use Rattle.load_gen.specs.declared.limits.TheConstants.{STEPS}
 use Rattle.load_gen.specs.declared.load.Outcome.{Outcome}
 use Rattle.load_gen.specs.declared.load.Outcome.TheVariants.{Through, Spent}
@@ -37,14 +36,6 @@ goes_on l = record { events = []; now = Ok l }
 
 abbrev pub stops : ℕ → Loaded
 stops step = record { events = []; now = Err step }
-
--- the messages of the world are within its limits
-abbrev pub is_within : WorldState → Bool
-is_within w = nat_le (length w.sent) MESSAGES_LIMIT && nat_le (sent_weight w.sent) WEIGHT_LIMIT
-
--- the event isn't refused, but the world would send more than it may
-abbrev pub is_spent : WorldState → WorldEvent → Bool
-is_spent w event = is_none (refusal w event) && not (is_within (after w event))
 
 -- one refused event more, where there is a reason
 abbrev pub with_refusal : ℕ → Option EventRefused → ℕ
