@@ -1,6 +1,5 @@
 -- Reading the members of a list one after the other, as a loop does.
-use Rattle.std.proofs.Common.{◌≡◌, ◌≢◌, ℕ, suc, ◌-◌, ◌+◌, ◌≤◌, ◌<◌, List, [], ◌∷◌, ◌++◌, Ok, Err, refl, sym, ap, ◌∙◌, append_assoc, arith}
-use Rattle.std.proofs.lemmas.List.{append-nil}
+use Rattle.std.proofs.Common.{◌≡◌, ◌≢◌, ℕ, suc, ◌-◌, ◌+◌, ◌<◌, List, [], ◌∷◌, ◌++◌, Ok, Err, refl, sym, ap, ◌∙◌, append_assoc, arith}
 use Rattle.wire_frames.specs.declared.offence.FrameError.{FrameError}
 use Rattle.wire_frames.specs.declared.offence.FrameError.TheVariants.{Memory}
 use Rattle.wire_frames.specs.Readers.{Taken, Reader, done, goes_on, members_at}

@@ -62,10 +62,12 @@ fn items_in(
     ensures { Gives result left.new.now (members_at (item_at edition size) count left.old.now) }
 {
     let mut items = Sequence::from_vec(Vec::with_capacity(alloc, room(count, MEMBER_LEAST, left))?);
+    let mut rest = *left;
     for _ in 0..count {
-        let item = item_of(alloc, edition, size, left)?;
+        let item = item_of(alloc, edition, size, &mut rest)?;
         items.push(item)?;
     }
+    *left = rest;
     Ok(items)
 }
 
@@ -94,10 +96,12 @@ fn cells_in(
     ensures { Gives result left.new.now (members_at (cell_at edition size) count left.old.now) }
 {
     let mut cells = Sequence::from_vec(Vec::with_capacity(alloc, room(count, MEMBER_LEAST, left))?);
+    let mut rest = *left;
     for _ in 0..count {
-        let cell = cell_of(alloc, edition, size, left)?;
+        let cell = cell_of(alloc, edition, size, &mut rest)?;
         cells.push(cell)?;
     }
+    *left = rest;
     Ok(cells)
 }
 
@@ -120,10 +124,12 @@ fn ids_in(alloc: Global, size: usize, count: usize, left: &mut &[u8]) -> Result<
     ensures { Gives result left.new.now (members_at (id_at size) count left.old.now) }
 {
     let mut ids = Sequence::from_vec(Vec::with_capacity(alloc, room(count, ID_LEN, left))?);
+    let mut rest = *left;
     for _ in 0..count {
-        let id = id_of(size, left)?;
+        let id = id_of(size, &mut rest)?;
         ids.push(id)?;
     }
+    *left = rest;
     Ok(ids)
 }
 
@@ -149,10 +155,12 @@ fn entries_in(
         alloc,
         room(count, PLACED_LEAST, left),
     )?);
+    let mut rest = *left;
     for _ in 0..count {
-        let placed = placed_of(alloc, edition, size, left)?;
+        let placed = placed_of(alloc, edition, size, &mut rest)?;
         entries.push(placed)?;
     }
+    *left = rest;
     Ok(entries)
 }
 

@@ -6,8 +6,8 @@ use Rattle.wire_frames.proofs.reading.lists.entries_in.Goals as goal
 pub returns-in_err-placed : goal.returns-in_err-placed
 returns-in_err-placed c =
     let p = err_from_is_err_and c.from_residual-in_err-placed.result c.from_residual-in_err-placed.ensures.1 in
-    rw (p.1, p.2) (stops (placed_at c.args.edition c.args.size) c.loop.entries c.args.count c.loop.counter c.loop.left.now c.in_err-placed.field-0.0 (members_at (placed_at c.args.edition c.args.size) c.args.count c.args.left.now.now) c.loop-test.true c.in_err-placed.ensures c.loop.invariant)
+    rw (p.1, p.2) (stops (placed_at c.args.edition c.args.size) c.loop.entries c.args.count c.loop.counter c.loop.rest.now c.in_err-placed.field-0.0 (members_at (placed_at c.args.edition c.args.size) c.args.count c.args.left.now.now) c.loop-test.true c.in_err-placed.ensures c.loop.invariant)
 
 pub loop-preserved : goal.loop-preserved
 loop-preserved c =
-    rw (c.in_ok-push.ensures.ok) (one_more (placed_at c.args.edition c.args.size) c.loop.entries c.args.count c.loop.counter c.loop.left.now c.in_ok-placed.placed c.placed_of.new.left.now (members_at (placed_at c.args.edition c.args.size) c.args.count c.args.left.now.now) c.loop-test.true c.in_ok-placed.ensures c.loop.invariant)
+    rw (c.in_ok-push.ensures.ok) (one_more (placed_at c.args.edition c.args.size) c.loop.entries c.args.count c.loop.counter c.loop.rest.now c.in_ok-placed.placed c.placed_of.new.left.now (members_at (placed_at c.args.edition c.args.size) c.args.count c.args.left.now.now) c.loop-test.true c.in_ok-placed.ensures c.loop.invariant)
