@@ -1,0 +1,3 @@
+pub mod HexTexts
+pub mod WidenedFits
+pub mod Recoding

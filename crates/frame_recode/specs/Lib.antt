@@ -1,0 +1,4 @@
+pub mod Hexadecimal
+pub mod Widened
+pub mod Recoded
+pub mod Laws
