@@ -1,5 +1,5 @@
 -- The words of the command line.
-use Rattle.std.proofs.Common.{◌≡◌, ◌≢◌, refl, ℕ, ◌<◌, ◌^◌, List, [], ◌∷◌, Option, Some, None, IsSome, IfSome, IfNone, ◌↔◌, rules, length, slice_get, codes, decimal, arith, sym, ap, ◌∙◌, subst}
+use Rattle.std.proofs.Common.{◌≡◌, ◌≢◌, refl, ℕ, ◌<◌, ◌^◌, List, [], ◌∷◌, Option, Some, None, IsSome, IfSome, IfNone, ◌↔◌, rules, length, slice_get, codes, decimal, arith, sym, ap, ◌∙◌}
 use Rattle.std.proofs.lemmas.Fmt.{decimal_injective}
 use Rattle.view_config.specs.Shape.{Dimensions, IsShape}
 use Rattle.view_config.specs.declared.edition.Edition.{Edition}
@@ -7,7 +7,7 @@ use Rattle.view_config.specs.declared.edition.Edition.TheVariants.{One, Two}
 use Rattle.view_config.specs.declared.edition.Mode.{Mode}
 use Rattle.view_config.specs.declared.edition.Mode.TheVariants.{M, St}
 use Rattle.lazylog_trace.specs.declared.words.Task.{Task}
-use Rattle.lazylog_trace.specs.declared.words.Task.TheVariants.{Load, Trace}
+use Rattle.lazylog_trace.specs.declared.words.Task.TheVariants.{Load, Recode, Trace}
 use Rattle.lazylog_trace.specs.Words.{words_of, shape_words, mode_word, AskFor, IsNoMode, NameShape}
 
 -- these words name these numbers, and a mode
@@ -183,11 +183,34 @@ no_both : (words : List (List ℕ)) (a b : Dimensions) (n : ℕ) → AskFor word
 no_both words a b n p q =
     let e : words_of (Trace a) ≡ words_of (Load b n) = sym p.words_are ∙ q.words_are in
     let same : length (words_of (Trace a)) ≡ length (words_of (Load b n)) = ap (λ (ws : List (List ℕ)). length ws) e in
-    let seven : 7 ≡ 8 = same in
+    let seven : ◌≡◌ {A = ℕ} 7 8 = same in
+    absurd (omega arith)
+
+-- one word, `recode`
+pub recode_asked : (words : List (List ℕ)) → length words ≡ 1 → slice_get words 0 ≡ Some (codes "recode") → AskFor words Recode
+recode_asked [] count first = absurd (omega (arith, count))
+recode_asked (a ∷ []) count first = record { words_are = cc first; within = tt }
+recode_asked (a ∷ b ∷ more) count first = absurd (omega (arith, count))
+
+no_trace : (words : List (List ℕ)) (a : Dimensions) → AskFor words Recode → AskFor words (Trace a) → ⊥
+no_trace words a p q =
+    let same : length (words_of Recode) ≡ length (words_of (Trace a)) = ap (λ (ws : List (List ℕ)). length ws) (sym p.words_are ∙ q.words_are) in
+    let one : ◌≡◌ {A = ℕ} 1 7 = same in
+    absurd (omega arith)
+
+no_load : (words : List (List ℕ)) (a : Dimensions) (n : ℕ) → AskFor words Recode → AskFor words (Load a n) → ⊥
+no_load words a n p q =
+    let same : length (words_of Recode) ≡ length (words_of (Load a n)) = ap (λ (ws : List (List ℕ)). length ws) (sym p.words_are ∙ q.words_are) in
+    let one : ◌≡◌ {A = ℕ} 1 8 = same in
     absurd (omega arith)
 
 pub one_task : (words : List (List ℕ)) (a b : Task) → AskFor words a → AskFor words b → a ≡ b
 one_task words (Trace a) (Trace b) p q = ap Trace (one_trace words a b p q)
 one_task words (Trace a) (Load b n) p q = absurd (no_both words a b n p q)
 one_task words (Load a m) (Trace b) p q = absurd (no_both words b a m q p)
+one_task words (Trace a) Recode p q = absurd (no_trace words a q p)
+one_task words (Load a m) Recode p q = absurd (no_load words a m q p)
+one_task words Recode (Trace b) p q = absurd (no_trace words b p q)
+one_task words Recode (Load b n) p q = absurd (no_load words b n p q)
+one_task words Recode Recode p q = refl
 one_task words (Load a m) (Load b n) p q = let k = one_load words a b m n p q in ap (λ (d : Dimensions). Load d m) k.0 ∙ ap (Load b) k.1

@@ -17,8 +17,8 @@ use Rattle.lazy_rules.specs.Holders.{holders}
 use Rattle.lazy_rules.specs.Lines.{line_told}
 use Rattle.lazy_rules.specs.WorldState.{WorldState, first_world}
 use Rattle.lazy_rules.specs.WorldRules.{run}
-use Rattle.lazylog_trace.specs.Shown.{with_newline}
-use Rattle.lazylog_trace.specs.Output.{end_of, first_progress, out, printed, script_output}
+use Rattle.script_streams.specs.Texts.{printed, with_newline}
+use Rattle.lazylog_trace.specs.Output.{end_of, first_progress, out, script_output}
 
 -- lines, each with its newline
 abbrev lines : List (List ℕ) → List ℕ

@@ -13,8 +13,9 @@ use Rattle.lazylog_trace.specs.Apply.{Applies, Applied, applied, events_of, comm
 use Rattle.lazy_rules.specs.WorldRules.{run}
 use Rattle.lazylog_trace.specs.Traced.{Led, Writes}
 use Rattle.lazylog_trace.proofs.AppliedEvents.{until_spent_run}
-use Rattle.lazylog_trace.specs.Output.{Progress, Output, lines_limit, counted, parsed_output, command_output, line_output, stops, printed, command_text}
-use Rattle.lazylog_trace.specs.Streams.{IsWritten, SinkUse}
+use Rattle.script_streams.specs.Texts.{printed}
+use Rattle.lazylog_trace.specs.Output.{Progress, Output, lines_limit, counted, parsed_output, command_output, line_output, stops, command_text}
+use Rattle.script_streams.specs.Streams.{IsWritten, SinkUse}
 use Rattle.trace_script.specs.Script.{command_of}
 
 module _ {R : Type 0} (known : Option (List ℕ)) (now : Progress) where

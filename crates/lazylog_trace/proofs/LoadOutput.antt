@@ -1,21 +1,20 @@
 -- What a load writes, and where its events lead.
-use Rattle.std.proofs.Common.{◌≡◌, ◌≢◌, ℕ, List, Option, inl, inr, refl, sym, ap, ◌∙◌, subst}
+use Rattle.std.proofs.Common.{◌≡◌, ◌≢◌, ℕ, List, Option, inl, inr, refl, sym, ap, subst}
 use Rattle.std.specs.Prelude.{Result, Ok, Err}
 use Rattle.io_edges.specs.declared.status.Status.{Status}
-use Rattle.io_edges.specs.declared.status.Status.TheVariants.{Done, Limit, Memory, WriteFault}
+use Rattle.io_edges.specs.declared.status.Status.TheVariants.{Memory, WriteFault}
 use Rattle.io_edges.specs.Telling.{Stops}
 use Rattle.io_edges.proofs.TellingLemmas.{stops_same}
 use Rattle.view_config.specs.Shape.{Dimensions}
-use Rattle.lazy_rules.specs.WorldState.{WorldState, first_world}
-use Rattle.lazy_rules.specs.WorldRules.{run}
+use Rattle.lazy_rules.specs.WorldState.{WorldState}
 use Rattle.lazy_core.specs.declared.trail.Trail.{Trail}
 use Rattle.lazy_core.specs.Filled.{IsFilled}
 use Rattle.load_gen.specs.declared.load.Outcome.{Outcome}
 use Rattle.load_gen.specs.declared.load.Outcome.TheVariants.{Through, Spent}
 use Rattle.load_gen.specs.Loading.{LoadState, Makes, first_load, whole_load}
-use Rattle.lazylog_trace.specs.LoadOutput.{EndsWith, IsLoad, end_as, end_of_load, last_of_load, load_line, load_status, out_load}
-use Rattle.lazylog_trace.specs.Shown.{with_newline}
-use Rattle.lazylog_trace.specs.Streams.{IsWritten, SinkUse}
+use Rattle.lazylog_trace.specs.LoadOutput.{EndsWith, IsLoad, end_as, last_of_load, load_line, load_status, out_load}
+use Rattle.script_streams.specs.Texts.{with_newline}
+use Rattle.script_streams.specs.Streams.{IsWritten, SinkUse}
 
 -- a last text that was written, or wasn't
 pub line_written : (text : List ℕ) (given : Status) (sink : SinkUse) → given ≢ WriteFault → given ≢ Memory → IsWritten {R = Unit {0}} text sink (Ok tt) → EndsWith text given sink given

@@ -28,8 +28,8 @@ use Rattle.lazylog_trace.specs.declared.action.Action.{Action}
 use Rattle.lazylog_trace.specs.declared.action.Action.TheVariants.{Nothing, Event as EventAction, NoNode, Deliveries, Holders, Message}
 use Rattle.lazylog_trace.specs.Actions.{action_of}
 use Rattle.lazylog_trace.specs.Apply.{action_texts, refusal_texts, own_texts}
-use Rattle.lazylog_trace.specs.Shown.{event_texts, frame_shown, holder_said, holder_text, holder_texts, with_newline}
-use Rattle.lazylog_trace.specs.Output.{printed}
+use Rattle.script_streams.specs.Texts.{printed, with_newline}
+use Rattle.lazylog_trace.specs.Shown.{event_texts, frame_shown, holder_said, holder_text, holder_texts}
 use Rattle.lazylog_trace.specs.Printed.{is_event_text}
 
 -- a text that a command prints of itself, at a world on the way of these events

@@ -40,8 +40,9 @@ use Rattle.lazylog_trace.specs.declared.action.Action.{Action}
 use Rattle.lazylog_trace.specs.declared.action.Action.TheVariants.{Nothing, Event as EventAction, NoNode, Deliveries, Holders, Message}
 use Rattle.lazylog_trace.specs.Actions.{action_of}
 use Rattle.lazylog_trace.specs.Apply.{action_texts, refusal_texts, own_texts}
-use Rattle.lazylog_trace.specs.Shown.{event_texts, frame_shown, holder_said, holder_text, holder_texts, with_newline}
-use Rattle.lazylog_trace.specs.Output.{Progress, closing, printed}
+use Rattle.script_streams.specs.Texts.{printed, with_newline}
+use Rattle.lazylog_trace.specs.Shown.{event_texts, frame_shown, holder_said, holder_text, holder_texts}
+use Rattle.lazylog_trace.specs.Output.{Progress, closing}
 use Rattle.lazylog_trace.specs.Printed.{Prints, is_event_text, texts_from, texts_of}
 use Rattle.lazylog_trace.proofs.PlainHistory.{IsClean, history_clean, line_flat}
 use Rattle.trace_script.proofs.Newlines.{IsFlat, IsFlatEntry, flat_append, flat_decimal, flat_end, flat_frame, flat_id, flat_line, flat_lost, flat_lost_verdict, flat_no_node, flat_parted, flat_refused, flat_verdict, is_flat}

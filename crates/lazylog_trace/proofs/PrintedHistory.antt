@@ -13,7 +13,7 @@ use Rattle.view_config.specs.Shape.{Dimensions, IsShape}
 use Rattle.lazylog_trace.proofs.PartedTexts.{made_prints}
 use Rattle.lazylog_trace.specs.Output.{first_progress, out, out_read, Progress, Output, bytes_output, line_output, script_output, behind, closing}
 use Rattle.lazylog_trace.specs.Printed.{Prints, Shows}
-use Rattle.lazylog_trace.specs.Streams.{SourceUse}
+use Rattle.script_streams.specs.Streams.{SourceUse}
 use Rattle.lazylog_trace.specs.Traced.{Traced}
 use Rattle.lazylog_trace.proofs.OutputRuns.{Follows, behind_follows, line_follows, script_follows, bytes_follow}
 

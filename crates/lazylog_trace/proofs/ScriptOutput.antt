@@ -10,8 +10,8 @@ use Rattle.io_edges.proofs.TellingLemmas.{append_known-append, goes_on as goes_p
 use Rattle.lazy_rules.specs.WorldState.{WorldState}
 use Rattle.lazy_rules.specs.WorldRules.{run}
 use Rattle.lazylog_trace.specs.Output.{Progress, Output, behind, byte_output, line_output, continued, bytes_output, end_output, script_output}
-use Rattle.lazylog_trace.specs.Traced.{FailedIn, HasBytes, Led, RanOf, Writes}
-use Rattle.lazylog_trace.specs.Streams.{SourceUse}
+use Rattle.script_streams.specs.Streams.{HasBytes, SourceUse}
+use Rattle.lazylog_trace.specs.Traced.{FailedIn, Led, RanOf, Writes}
 use Rattle.world_facts.proofs.Runs.{run_append}
 use Rattle.lazylog_trace.proofs.OutputRuns.{bytes_follow}
 use Rattle.lazylog_trace.proofs.ByteOutput.{SoFar, output_pieces, writes_further, continued_ok, continued_err}

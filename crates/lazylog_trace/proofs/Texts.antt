@@ -1,13 +1,12 @@
 -- Texts that are written one after the other.
-use Rattle.std.proofs.Common.{◌≡◌, ℕ, ◌+◌, ◌<◌, suc, List, ◌∷◌, ◌++◌, length, drop, drop-cons, arith, get_or, Option, inr, refl, sym, ap, ◌∙◌}
+use Rattle.std.proofs.Common.{◌≡◌, ℕ, ◌+◌, ◌<◌, suc, List, ◌∷◌, ◌++◌, length, drop, drop-cons, arith, get_or, Option, sym, ap, ◌∙◌}
 use Rattle.std.specs.Io.KnownBytes.{append_known}
 use Rattle.io_edges.specs.Telling.{Goes}
 use Rattle.io_edges.specs.declared.status.Status.{Status}
-use Rattle.io_edges.specs.declared.status.Status.TheVariants.{Memory}
 use Rattle.std.specs.Prelude.{Err}
-use Rattle.lazylog_trace.specs.Streams.{IsWritten}
-use Rattle.io_edges.proofs.TellingLemmas.{fails_further, fails_within, goes_on, goes_further, stops_further, stops_same, stops_within}
-use Rattle.lazylog_trace.specs.Output.{printed}
+use Rattle.script_streams.specs.Streams.{IsWritten}
+use Rattle.io_edges.proofs.TellingLemmas.{fails_further, fails_within, goes_on, goes_further, stops_further, stops_within}
+use Rattle.script_streams.specs.Texts.{printed}
 
 -- the next text, and those behind it
 printed_at : (texts : List (List ℕ)) (i : ℕ) (text : List ℕ) → i < length texts → text ≡ get_or texts i text → printed (drop i texts) ≡ text ++ printed (drop (i + 1) texts)
@@ -30,13 +29,3 @@ module _ (before between after : Option (List ℕ)) (texts : List (List ℕ)) (i
       only = written.only;
       stopped = written.stopped;
     }
-
--- nothing was written of a text, and there was no memory
-pub unwritten : {R : Type 0} (known : Option (List ℕ)) (faults : ℕ) (text : List ℕ) → IsWritten {R = R} text (record { before = known; after = known; faults = faults; faults_now = faults }) (Err Memory)
-unwritten known faults text = record {
-  whole = tt;
-  front = stops_same known text;
-  fails = λ e. cc;
-  only = inr refl;
-  stopped = record { write_fault = λ e. cc; no_read_fault = λ e. cc; no_usage = λ e. cc; grows = omega arith; faultless = λ e. refl };
-}

@@ -11,7 +11,7 @@ use Rattle.lazylog_trace.specs.declared.apply.Outcome.TheVariants.{Through, Spen
 use Rattle.lazylog_trace.specs.declared.trace.Trace.{Trace}
 use Rattle.lazylog_trace.specs.Apply.{Applies, applied, events_of}
 use Rattle.lazylog_trace.specs.Output.{Progress, command_text, line_output, lines_limit}
-use Rattle.lazylog_trace.specs.Streams.{IsWritten, SinkUse}
+use Rattle.script_streams.specs.Streams.{IsWritten, SinkUse}
 use Rattle.lazylog_trace.specs.Trace.{progress_of}
 use Rattle.lazylog_trace.specs.Traced.{Led, Writes}
 use Rattle.lazylog_trace.proofs.LineOutput.{applied_world, done_led, failed_writes, spent_writes, through_writes}

@@ -14,7 +14,8 @@ use Rattle.lazylog_trace.specs.declared.action.Action.TheVariants.{Nothing, Even
 use Rattle.lazylog_trace.specs.declared.apply.Outcome.{Outcome}
 use Rattle.lazylog_trace.specs.declared.apply.Outcome.TheVariants.{Through, Spent}
 use Rattle.lazylog_trace.specs.Actions.{action_of}
-use Rattle.lazylog_trace.specs.Shown.{event_texts, holder_texts, message_shown, with_newline}
+use Rattle.script_streams.specs.Texts.{with_newline}
+use Rattle.lazylog_trace.specs.Shown.{event_texts, holder_texts, message_shown}
 
 -- A command is applied to a world as events, and prints texts: of the refusal of its event, of what it asks to see,
 -- and of what the history gained.

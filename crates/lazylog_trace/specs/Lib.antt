@@ -2,7 +2,6 @@ pub mod Words
 pub mod Actions
 pub mod Shown
 pub mod Apply
-pub mod Streams
 pub mod Output
 pub mod Trace
 pub mod Traced

@@ -12,11 +12,11 @@ use Rattle.lazy_core.specs.Filled.{IsFilled}
 use Rattle.load_gen.specs.declared.load.Outcome.{Outcome}
 use Rattle.load_gen.specs.declared.load.Outcome.TheVariants.{Through, Spent}
 use Rattle.load_gen.specs.Counting.{counts_of}
-use Rattle.load_gen.specs.Loading.{LoadState, Loaded, whole_load}
+use Rattle.load_gen.specs.Loading.{LoadState, whole_load}
 use Rattle.load_gen.specs.Summary.{summary_text}
 use Rattle.trace_script.specs.EndTexts.{limit_text}
-use Rattle.lazylog_trace.specs.Shown.{with_newline}
-use Rattle.lazylog_trace.specs.Streams.{SinkUse}
+use Rattle.script_streams.specs.Texts.{with_newline}
+use Rattle.script_streams.specs.Streams.{SinkUse}
 use Rattle.lazylog_trace.specs.Words.{AskFor}
 use Rattle.lazylog_trace.specs.declared.words.Task.TheVariants.{Load}
 

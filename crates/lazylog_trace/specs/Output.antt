@@ -1,4 +1,4 @@
-use Rattle.std.specs.Prelude.{ℕ, ◌+◌, List, [], ◌∷◌, ◌++◌, length, flat_map, ◌==◌, nat_le, if◌then◌else◌, Option, Some, None, Result, Ok, Err}
+use Rattle.std.specs.Prelude.{ℕ, ◌+◌, List, [], ◌∷◌, ◌++◌, length, ◌==◌, nat_le, if◌then◌else◌, Option, Some, None, Result, Ok, Err}
 use Rattle.view_config.specs.Limits.{line_limit}
 use Rattle.view_config.specs.Shape.{Dimensions}
 use Rattle.io_edges.specs.declared.status.Status.{Status}
@@ -9,7 +9,7 @@ use Rattle.trace_script.specs.declared.command.Command.{Command}
 use Rattle.trace_script.specs.Script.{command_of}
 use Rattle.trace_script.specs.EndTexts.{end_text, bad_line_text, limit_text, read_fault_text}
 use Rattle.lazylog_trace.specs.Apply.{Applied, applied, events_of, until_spent, command_texts}
-use Rattle.lazylog_trace.specs.Shown.{with_newline}
+use Rattle.script_streams.specs.Texts.{printed, with_newline}
 
 -- The output of a trace: what is printed for the bytes of a script, which events are tried, and how that ends,
 -- byte by byte, as a stream can keep it.
@@ -39,10 +39,6 @@ goes_on r = record { text = []; events = []; now = Ok r }
 
 abbrev pub stops : Status → Output
 stops status = record { text = []; events = []; now = Err status }
-
--- texts behind each other
-abbrev pub printed : List (List ℕ) → List ℕ
-printed texts = flat_map (λ text. text) texts
 
 -- all that a command prints
 abbrev pub command_text : WorldState → Command → List ℕ

@@ -1,4 +1,4 @@
-use Rattle.std.specs.Prelude.{ℕ, List, [], ◌∷◌, ◌++◌, map, Option, Some, None, Result, Ok, Err}
+use Rattle.std.specs.Prelude.{ℕ, List, [], ◌∷◌, map, Option, Some, None, Result, Ok, Err}
 use Rattle.rec_id.specs.declared.entry.Entry.{Entry}
 use Rattle.rec_id.specs.declared.event.Event.{Event}
 use Rattle.view_config.specs.declared.edition.Edition.{Edition}
@@ -14,13 +14,11 @@ use Rattle.trace_script.specs.FrameTexts.{frame_text}
 use Rattle.trace_script.specs.LineTexts.{line_text, lost_text, no_holder_text}
 use Rattle.trace_script.specs.RefusalTexts.{refused_text}
 use Rattle.trace_script.specs.VerdictTexts.{lost_verdict_text, verdict_text}
+use Rattle.script_streams.specs.Texts.{with_newline}
 use Rattle.lazylog_trace.specs.declared.action.Asked.{Asked}
 use Rattle.lazylog_trace.specs.declared.action.Asked.TheVariants.{Line, Verdict}
 
 -- The texts of what is shown, each with its newline.
-
-abbrev pub with_newline : List ℕ → List ℕ
-with_newline text = text ++ (10 ∷ [])
 
 -- events of the history
 abbrev pub event_texts : List Event → List (List ℕ)

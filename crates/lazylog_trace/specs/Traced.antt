@@ -1,4 +1,4 @@
-use Rattle.std.specs.Prelude.{◌≡◌, ◌≢◌, ◌⊎◌, ℕ, List, [], ◌∷◌, ◌++◌, Option, Some, None, Result, Ok, Err, OnOk, IfErr}
+use Rattle.std.specs.Prelude.{◌≡◌, ◌≢◌, ◌⊎◌, ℕ, List, [], ◌∷◌, ◌++◌, Option, None, Result, Ok, Err, OnOk, IfErr}
 use Rattle.std.specs.Io.KnownBytes.{append_known, IsAtEnd}
 use Rattle.view_config.specs.Shape.{Dimensions}
 use Rattle.io_edges.specs.Faults.{Rose}
@@ -11,9 +11,9 @@ use Rattle.lazy_rules.specs.WorldRules.{run}
 use Rattle.lazy_core.specs.declared.trail.Trail.{Trail}
 use Rattle.lazy_core.specs.Filled.{IsFilled}
 use Rattle.lazylog_trace.specs.Output.{Progress, Output, first_progress, bytes_output, line_output, script_output, closing, closing_of, out, end_of, out_read}
-use Rattle.lazylog_trace.specs.Shown.{with_newline}
+use Rattle.script_streams.specs.Texts.{with_newline}
 use Rattle.lazylog_trace.specs.Printed.{Shows}
-use Rattle.lazylog_trace.specs.Streams.{SinkUse, SourceUse}
+use Rattle.script_streams.specs.Streams.{HasBytes, SinkUse, SourceUse}
 use Rattle.lazylog_trace.specs.Words.{AskFor, usage_text}
 use Rattle.lazylog_trace.specs.declared.words.Task.TheVariants.{Trace}
 
@@ -65,11 +65,6 @@ pub record FailedAt (start : Progress) (bytes : List ℕ) (before after : Option
 pub record FailedIn (start : Progress) (bytes : List ℕ) (before after : Option (List ℕ)) (world : WorldState) : Type 0 where
   pub place : FailedAt start bytes before after
   pub world_is : world ≡ run (line_output place.now).events place.now.world
-
--- what a source tells is these bytes, where it tells them
-abbrev pub HasBytes : Option (List ℕ) → List ℕ → Type 0
-HasBytes None bytes = Unit {0}
-HasBytes (Some known) bytes = known ≡ bytes
 
 -- where a write failed, it did so in these bytes, whatever comes behind them
 abbrev pub FailsIn : {R : Type 0} → Progress → List ℕ → Option (List ℕ) → Option (List ℕ) → WorldState → Result R Status → Type 0

@@ -5,7 +5,7 @@ use Rattle.view_config.specs.declared.edition.Mode.{Mode}
 use Rattle.view_config.specs.declared.edition.Mode.TheVariants.{M, St}
 use Rattle.view_config.specs.Shape.{Dimensions, IsShape}
 use Rattle.lazylog_trace.specs.declared.words.Task.{Task}
-use Rattle.lazylog_trace.specs.declared.words.Task.TheVariants.{Load, Trace}
+use Rattle.lazylog_trace.specs.declared.words.Task.TheVariants.{Load, Recode, Trace}
 
 -- the word of an edition and a mode
 abbrev pub mode_word : Edition → Mode → List ℕ
@@ -28,11 +28,13 @@ shape_words shape more =
 abbrev pub words_of : Task → List (List ℕ)
 words_of (Trace shape) = codes "trace" ∷ shape_words shape []
 words_of (Load shape seed) = codes "load" ∷ shape_words shape (decimal seed ∷ [])
+words_of Recode = codes "recode" ∷ []
 
 -- its numbers are within their limits
 abbrev pub IsTask : Task → Type 0
 IsTask (Trace shape) = IsShape shape
 IsTask (Load shape seed) = IsShape shape × (seed < 2 ^ 32)
+IsTask Recode = Unit {0}
 
 -- the words ask for this
 pub record AskFor (words : List (List ℕ)) (task : Task) : Type 0 where

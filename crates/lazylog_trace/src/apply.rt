@@ -8,7 +8,7 @@ ghost use Rattle.lazy_rules.specs.WorldRules.{refusal};
 ghost use Rattle.trace_script.specs.RefusalTexts.{no_node_text};
 ghost use Rattle.trace_script.specs.Spelling.{IsSayable};
 ghost use Rattle.lazylog_trace.specs.Apply.{Advances, Applies, IsOfFew, action_events, action_texts, command_texts, deliveries, events_of, refusal_texts};
-ghost use Rattle.lazylog_trace.specs.Shown.{with_newline};
+ghost use Rattle.script_streams.specs.Texts.{with_newline};
 
 use crate::action::{Action, action_of};
 use crate::show::{add_text, show_events, show_holders, show_message};

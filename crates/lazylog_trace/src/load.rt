@@ -10,15 +10,15 @@ ghost use Rattle.load_gen.specs.Counting.{counts_of};
 ghost use Rattle.load_gen.specs.Summary.{summary_text};
 ghost use Rattle.lazy_core.specs.Filled.{AreLawful, IsFilled, spared_lines};
 ghost use Rattle.lazylog_trace.specs.LoadOutput.{EndsWith, IsLoad, end_as, last_of_load};
-ghost use Rattle.lazylog_trace.specs.Shown.{with_newline};
-ghost use Rattle.lazylog_trace.specs.Streams.{sink_use};
+ghost use Rattle.script_streams.specs.Texts.{with_newline};
+ghost use Rattle.script_streams.specs.Streams.{sink_use};
 
-use crate::output::write_ended;
 use io_edges::{Sink, Status};
 use lazy_core::{HolderLines, Trail, World};
 use load_gen::{Load, Outcome, summary};
 use plain_lists::Sequence;
 use rec_id::Text;
+use script_streams::write_ended;
 use std::alloc::{AllocError, Global};
 use trace_script::print_limit;
 use view_config::Shape;

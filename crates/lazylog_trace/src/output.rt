@@ -1,24 +1,13 @@
 //! Texts written to a sink.
 
-ghost use Rattle.lazylog_trace.specs.Shown.{with_newline};
-ghost use Rattle.lazylog_trace.specs.Output.{closing_of, printed};
-ghost use Rattle.lazylog_trace.specs.Streams.{IsWritten, sink_use};
+ghost use Rattle.script_streams.specs.Texts.{printed};
+ghost use Rattle.lazylog_trace.specs.Output.{closing_of};
+ghost use Rattle.script_streams.specs.Streams.{IsWritten, sink_use};
 ghost use Rattle.std.specs.Prelude.{◌≡◌, None, IsOk};
 
-use io_edges::{Sink, SinkFailed, Status, write_all};
+use io_edges::{Sink, Status};
 use rec_id::{Text, TextList};
-use std::alloc::AllocError;
-
-/// Writes a text by one write, where the sink takes it whole.
-pub fn write_text<K: Sink>(sink: &mut K, text: &[u8]) -> Result<(), Status>
-    ensures { IsWritten text.now (sink_use K.written K.faults sink.old sink.new) result }
-{
-    match write_all(sink, text) {
-        Ok(()) => Ok(()),
-        Err(SinkFailed::Failed) => Err(Status::WriteFault),
-        Err(SinkFailed::Memory) => Err(Status::Memory),
-    }
-}
+use script_streams::{write_ended, write_text};
 
 /// Writes texts, each as it stands.
 pub fn write_texts<K: Sink>(sink: &mut K, texts: &TextList) -> Result<(), Status>
@@ -31,16 +20,6 @@ pub fn write_texts<K: Sink>(sink: &mut K, texts: &TextList) -> Result<(), Status
         }
     }
     Ok(())
-}
-
-/// Writes a text and a newline behind it.
-pub fn write_ended<K: Sink>(sink: &mut K, mut text: Text) -> Result<(), Status>
-    ensures { IsWritten (with_newline text) (sink_use K.written K.faults sink.old sink.new) result }
-{
-    match text.push(b'\n') {
-        Ok(()) => write_text(sink, text.as_slice()),
-        Err(AllocError) => Err(Status::Memory),
-    }
 }
 
 /// Writes the last text, where there is one, and a newline behind it.

@@ -5,7 +5,8 @@ ghost use Rattle.std.specs.Prelude.{◌≡◌, ◌+◌, ◌^◌, ◌<◌, ◌++�
 ghost use Rattle.lazy_rules.specs.Holders.{holders};
 ghost use Rattle.lazy_rules.specs.Rows.{has_node};
 ghost use Rattle.lazylog_trace.specs.declared.action.Asked.TheVariants.{Line, Verdict};
-ghost use Rattle.lazylog_trace.specs.Shown.{event_texts, holder_text, holder_texts, message_shown, with_newline};
+ghost use Rattle.script_streams.specs.Texts.{with_newline};
+ghost use Rattle.lazylog_trace.specs.Shown.{event_texts, holder_text, holder_texts, message_shown};
 
 use crate::action::Asked;
 use lazy_core::{LineError, World};

@@ -5,21 +5,24 @@ ghost use Rattle.view_config.specs.Shape.{Dimensions, IsShape};
 ghost use Rattle.io_edges.specs.declared.status.Status.TheVariants.{Usage, Memory};
 ghost use Rattle.lazy_core.specs.Filled.{IsFilled};
 ghost use Rattle.lazylog_trace.specs.Output.{last_text, status_of};
-ghost use Rattle.lazylog_trace.specs.Streams.{AnswersFaults, ClosesFaults, HasFaults, sink_use, source_use};
+ghost use Rattle.script_streams.specs.Streams.{AnswersFaults, ClosesFaults, HasFaults, sink_use, source_use};
 ghost use Rattle.lazylog_trace.specs.Trace.{IsUnderWay, progress_of};
 ghost use Rattle.lazylog_trace.specs.Traced.{AnswersUsage, Closed, IsTrace, IsTraceOf, RanOf};
 ghost use Rattle.lazylog_trace.specs.LoadOutput.{IsLoad, IsLoadOf};
-ghost use Rattle.lazylog_trace.specs.declared.words.Task.TheVariants.{Load as LoadTask, Trace as TraceTask};
+ghost use Rattle.lazylog_trace.specs.declared.words.Task.TheVariants.{Load as LoadTask, Recode as RecodeTask, Trace as TraceTask};
 ghost use Rattle.lazylog_trace.specs.Words.{AskFor, IsAsked, IsTask};
+ghost use Rattle.recode_top.specs.Recoding.{IsRecoding};
 
 use crate::load::load_shape;
-use crate::output::{write_last, write_text};
+use crate::output::write_last;
 use crate::trace::Trace;
 use crate::words::{Task, read_words};
 use io_edges::{Sink, Source, Status};
 use lazy_core::{Trail, World};
 use plain_lists::Sequence;
 use rec_id::{Text, TextList};
+use recode_top::recode_top;
+use script_streams::write_text;
 use std::alloc::{AllocError, Global};
 use trace_script::{print_bad_line, print_end, print_limit, print_read_fault};
 use view_config::Shape;
@@ -154,23 +157,28 @@ fn perform<S: Source, K: Sink>(
     ensures traced { (shape : Dimensions) → task.now ≡ TraceTask shape → IsTrace shape (source_use S.left S.faults source.old source.new) (sink_use K.written K.faults sink.old sink.new) trail.old trail.new result }
     ensures loaded { (shape : Dimensions) (seed : ℕ) → task.now ≡ LoadTask shape seed → IsLoad shape seed (sink_use K.written K.faults sink.old sink.new) trail.old trail.new result }
     ensures load_unread { (shape : Dimensions) (seed : ℕ) → task.now ≡ LoadTask shape seed → source.new ≡ source.old }
+    ensures recoded { task.now ≡ RecodeTask → IsRecoding (source_use S.left S.faults source.old source.new) (sink_use K.written K.faults sink.old sink.new) result }
+    ensures recode_trail { task.now ≡ RecodeTask → trail.new ≡ trail.old }
     ensures unfilled { result ≡ Memory → trail.new ≡ trail.old }
 {
     match task {
         Task::Trace(shape) => trace_shape(alloc, shape, source, sink, trail),
         Task::Load(shape, seed) => load_shape(alloc, shape, *seed, sink, trail),
+        Task::Recode => recode_top(alloc, source, sink),
     }
 }
 
-/// Traces the script that `source` has, as the words say, and writes what happens to `sink`.
+/// Does what the words ask for: traces the script that `source` has, and writes what happens to `sink`; or puts a
+/// load on a log; or brings the frames over that `source` has.
 ///
 /// The text that is written, and what the trace ends with, are the definitions `out` and `end_of` of
 /// `specs/Output.antt`, which read the script byte by byte. `Usage` is answered for words that ask for
-/// no trace, `BadLine(n)` where script line n is the first that is outside the grammar or too long,
+/// nothing, `BadLine(n)` where script line n is the first that is outside the grammar or too long,
 /// `Limit(n)` where script line n is one too many, or an event of it would send more than a world may.
+/// Those of a load are in `specs/LoadOutput.antt`, and those of frames in `specs/Output.antt` of `recode_top`.
 ///
-/// The trail is filled whatever the trace ended with, but for faulty words and want of memory: it has the
-/// history of the events that were applied, and the lines of those holders whose line isn't lost.
+/// The trail is filled whatever a trace or a load ended with, but for want of memory: it has the history of the events
+/// that were applied, and the lines of those holders whose line isn't lost.
 pub fn trace_top<S: Source, K: Sink>(
     alloc: Global,
     words: &TextList,
@@ -195,6 +203,13 @@ pub fn trace_top<S: Source, K: Sink>(
     // the shape; no input is read. The trail is filled as that of a trace.
     ensures loaded { IsLoadOf words.now (sink_use K.written K.faults sink.old sink.new) trail.old trail.new result }
     ensures load_unread { (shape : Dimensions) (seed : ℕ) → AskFor words.now (LoadTask shape seed) → source.new ≡ source.old }
+
+    // Where the word is `recode`, the frames are brought over that the source has, a line each: it ends as its lines
+    // say, and what becomes of each is written; where the source failed, what became of the lines that were read
+    // whole, and that it failed; where a write failed, a front of that. No log belongs to it, and the trail stays as
+    // it was.
+    ensures recoded { AskFor words.now RecodeTask → IsRecoding (source_use S.left S.faults source.old source.new) (sink_use K.written K.faults sink.old sink.new) result }
+    ensures recode_trail { AskFor words.now RecodeTask → trail.new ≡ trail.old }
 
     // Faulty words and want of memory leave the trail as it was.
     ensures faulty_trail { ¬ IsAsked words.now → trail.new ≡ trail.old }
@@ -346,6 +361,7 @@ mod tests {
             (words, [1].as_slice(), none, (0, 3, 0)),
             (words, [2].as_slice(), none, (2, 3, 1)),
             (b"trace m 3 0 1 1".as_slice(), none, none, (0, 0, 0)),
+            (b"recode".as_slice(), none, none, (0, 0, 0)),
         ] {
             leaves(&rt, rt.alloc(), words, reads, writes, want)?;
         }
@@ -392,6 +408,18 @@ mod tests {
                 empty.as_slice(),
                 7,
                 b"stopped: limit at 100001\n".as_slice(),
+            ),
+            (
+                b"recode".as_slice(),
+                b"01\n#\n".as_slice(),
+                3,
+                b"refused: short\nstopped: bad line 2\n".as_slice(),
+            ),
+            (
+                b"recode m".as_slice(),
+                b"01\n".as_slice(),
+                2,
+                b"usage\n".as_slice(),
             ),
         ] {
             traces(&rt, rt.alloc(), words, script, &[], &[], (status, written))?;

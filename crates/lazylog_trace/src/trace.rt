@@ -7,7 +7,7 @@ ghost use Rattle.io_edges.specs.declared.status.Status.TheVariants.{Limit, Write
 ghost use Rattle.trace_script.specs.Spelling.{IsSayable};
 ghost use Rattle.lazylog_trace.specs.Apply.{Advances, Applies, applied, events_of};
 ghost use Rattle.lazylog_trace.specs.Output.{lines_limit, command_text, line_output, long_output, byte_output, bytes_output, end_output};
-ghost use Rattle.lazylog_trace.specs.Streams.{IsWritten, Stopped, sink_use};
+ghost use Rattle.script_streams.specs.Streams.{IsWritten, Stopped, sink_use};
 ghost use Rattle.lazylog_trace.specs.Trace.{IsUnderWay, bytes_left, progress_of};
 ghost use Rattle.lazylog_trace.specs.Traced.{FailsIn, Led, LedToStop, Writes};
 

@@ -3,7 +3,7 @@
 ghost use Rattle.std.specs.Prelude.{◌≡◌, ◌≢◌, ◌↔◌, ◌<◌, ◌≤◌, ◌^◌, ℕ, length, slice_get, Some, IfSome, IfNone, IsTrue, decimal};
 ghost use Rattle.view_config.specs.Shape.{Dimensions};
 ghost use Rattle.lazylog_trace.specs.Words.{AskFor, IsAsked, IsNoMode, NameShape, mode_word};
-ghost use Rattle.lazylog_trace.specs.declared.words.Task.TheVariants.{Load, Trace};
+ghost use Rattle.lazylog_trace.specs.declared.words.Task.TheVariants.{Load, Recode, Trace};
 
 use rec_id::TextList;
 use trace_script::read_number;
@@ -16,6 +16,8 @@ pub enum Task {
     Trace(Shape),
     /// The load of this number is put on a log of this shape.
     Load(Shape, u32),
+    /// The frames of a script are brought over to edition Two. No log belongs to it.
+    Recode,
 }
 
 /// The number that word `i` is the decimal text of.
@@ -102,6 +104,20 @@ fn load_named(words: &TextList) -> Option<Task>
     Some(Task::Load(shape, number_at(words, 7)?))
 }
 
+/// Frames are brought over, where the only word is `recode`.
+fn recode_named(words: &TextList) -> Option<Task>
+    ensures some { IfSome result (AskFor words.now) }
+    ensures none { IfNone result (¬ AskFor words.now Recode) }
+{
+    if words.len() != 1 {
+        return None;
+    }
+    if !is_word(words, 0, b"recode") {
+        return None;
+    }
+    Some(Task::Recode)
+}
+
 /// What the words ask for, `None` for any others and for numbers outside their limits. MODE is `m` or `st`, and of
 /// edition Two `m2` or `st2`.
 pub fn read_words(words: &TextList) -> Option<Task>
@@ -111,5 +127,8 @@ pub fn read_words(words: &TextList) -> Option<Task>
     if let Some(trace) = trace_named(words) {
         return Some(trace);
     }
-    load_named(words)
+    if let Some(load) = load_named(words) {
+        return Some(load);
+    }
+    recode_named(words)
 }

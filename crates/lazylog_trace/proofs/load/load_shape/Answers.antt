@@ -6,8 +6,8 @@ use Rattle.lazy_core.specs.Filled.{IsFilled}
 use Rattle.load_gen.specs.Loading.{LoadState, Makes, many_steps}
 use Rattle.load_gen.specs.declared.limits.TheConstants.{STEPS}
 use Rattle.lazylog_trace.specs.LoadOutput.{EndsWith, last_of_load}
-use Rattle.lazylog_trace.specs.Shown.{with_newline}
-use Rattle.lazylog_trace.specs.Streams.{sink_use}
+use Rattle.script_streams.specs.Texts.{with_newline}
+use Rattle.script_streams.specs.Streams.{sink_use}
 use Rattle.lazylog_trace.proofs.LoadOutput.{made_load, memory_load}
 use Rattle.lazylog_trace.proofs.load.load_shape.Goals as goal
 

@@ -1,7 +1,7 @@
 use Rattle.std.proofs.Common.{◌≡◌, ◌<◌, ℕ, List, length, get_or, ◌∙◌, ap, subst, arith}
 use Rattle.std.specs.Prelude.{Err}
 use Rattle.std.specs.Io.KnownBytes.{append_known}
-use Rattle.lazylog_trace.specs.Streams.{IsWritten, sink_use}
+use Rattle.script_streams.specs.Streams.{IsWritten, sink_use}
 use Rattle.lazylog_trace.proofs.Texts.{text_goes, text_stops}
 use Rattle.lazylog_trace.proofs.output.write_texts.Goals as goal
 

@@ -1,6 +1,6 @@
 use Rattle.std.proofs.Common.{◌≡◌, drop}
 use Rattle.io_edges.specs.Telling.{Goes}
-use Rattle.lazylog_trace.specs.Output.{printed}
+use Rattle.script_streams.specs.Texts.{printed}
 use Rattle.lazylog_trace.proofs.output.write_texts.Given as goal
 
 abbrev pub invariant-loop-text : goal.invariant-loop-text

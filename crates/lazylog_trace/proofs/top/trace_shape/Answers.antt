@@ -3,7 +3,7 @@ use Rattle.io_edges.specs.declared.status.Status.TheVariants.{Memory}
 use Rattle.lazy_rules.specs.WorldState.{WorldState}
 use Rattle.lazy_core.specs.Filled.{IsFilled}
 use Rattle.lazylog_trace.specs.Output.{Progress, first_progress, last_text, status_of}
-use Rattle.lazylog_trace.specs.Streams.{sink_use, source_use}
+use Rattle.script_streams.specs.Streams.{sink_use, source_use}
 use Rattle.lazylog_trace.specs.Trace.{progress_of}
 use Rattle.lazylog_trace.specs.Traced.{Closed, TracedTo}
 use Rattle.lazylog_trace.proofs.TraceOutput.{both_traced, filled_trace, memory_trace}

@@ -1,4 +1,4 @@
-use Rattle.lazylog_trace.specs.declared.words.Task.TheVariants.{Load, Trace}
+use Rattle.lazylog_trace.specs.declared.words.Task.TheVariants.{Load, Recode, Trace}
 use Rattle.lazylog_trace.proofs.CommandLine.{one_task}
 use Rattle.lazylog_trace.proofs.top.trace_top.Goals as goal
 
@@ -10,3 +10,9 @@ returns-clause-loaded g c = λ shape seed asked. c.perform.ensures.loaded shape 
 
 pub returns-clause-load_unread : goal.returns-clause-load_unread
 returns-clause-load_unread g c = λ shape seed asked. c.perform.ensures.load_unread shape seed (one_task c.args.words.now c.in-Some.task (Load shape seed) c.in-Some.ensures.some asked)
+
+pub returns-clause-recoded : goal.returns-clause-recoded
+returns-clause-recoded g c = λ asked. c.perform.ensures.recoded (one_task c.args.words.now c.in-Some.task Recode c.in-Some.ensures.some asked)
+
+pub returns-clause-recode_trail : goal.returns-clause-recode_trail
+returns-clause-recode_trail g c = λ asked. c.perform.ensures.recode_trail (one_task c.args.words.now c.in-Some.task Recode c.in-Some.ensures.some asked)

@@ -1,8 +1,8 @@
 use Rattle.std.proofs.Common.{◌++◌, List, ℕ, ◌∙◌, ap}
 use Rattle.lazylog_trace.specs.Apply.{command_texts}
-use Rattle.lazylog_trace.specs.Streams.{sink_use}
+use Rattle.script_streams.specs.Streams.{sink_use}
 use Rattle.lazylog_trace.proofs.LineOutput.{applied_world, texts_part, texts_whole}
-use Rattle.lazylog_trace.proofs.Texts.{unwritten}
+use Rattle.script_streams.proofs.Texts.{unwritten}
 use Rattle.lazylog_trace.proofs.trace.apply_command.Goals as goal
 
 pub returns-in-Err-clause-written : goal.returns-in-Err-clause-written

@@ -2,7 +2,7 @@ use Rattle.std.proofs.Common.{◌≡◌, ℕ, List, None, ◌∙◌, ap, subst, 
 use Rattle.std.specs.Prelude.{Err}
 use Rattle.trace_script.specs.Script.{command_of}
 use Rattle.lazylog_trace.specs.declared.trace.Trace.{Trace}
-use Rattle.lazylog_trace.specs.Streams.{sink_use}
+use Rattle.script_streams.specs.Streams.{sink_use}
 use Rattle.lazylog_trace.specs.Trace.{progress_of}
 use Rattle.lazylog_trace.proofs.LineOutput.{bad_writes, memory_writes}
 use Rattle.lazylog_trace.proofs.TraceLines.{failed_led, line_failed, line_led, line_spent, line_through}

@@ -1,5 +1,0 @@
-use Rattle.lazylog_trace.proofs.Texts.{unwritten}
-use Rattle.lazylog_trace.proofs.output.write_ended.Goals as goal
-
-pub returns : goal.returns
-returns g c = unwritten (g.K.Sink.written c.args.sink.now) (g.K.Sink.faults c.args.sink.now) _
