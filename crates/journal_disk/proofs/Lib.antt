@@ -1,0 +1,4 @@
+mod Pasts
+mod Crashes
+mod Tapes
+mod Overwriting

@@ -1,0 +1,3 @@
+pub mod Disk
+pub mod Meter
+pub mod Past
