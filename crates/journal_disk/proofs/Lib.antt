@@ -2,3 +2,5 @@ mod Pasts
 mod Crashes
 mod Tapes
 mod Overwriting
+pub mod MomentLemmas
+pub mod Staging

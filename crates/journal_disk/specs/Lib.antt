@@ -1,3 +1,4 @@
 pub mod Disk
 pub mod Meter
 pub mod Past
+pub mod Moments
