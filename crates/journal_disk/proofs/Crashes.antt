@@ -106,7 +106,7 @@ any_synced : (deeds : List Deed) → list_any is_sync (until_synced deeds) ≡ l
 any_synced [] = refl
 any_synced (deed ∷ deeds) = any_if (list_any is_sync (deed ∷ deeds)) deed deeds (any_synced deeds) refl
 
-twice : (deeds : List Deed) → until_synced (until_synced deeds) ≡ until_synced deeds
+pub twice : (deeds : List Deed) → until_synced (until_synced deeds) ≡ until_synced deeds
 twice [] = refl
 twice (deed ∷ deeds) = synced_if (list_any is_sync (deed ∷ deeds)) deed deeds (sym (twice deeds)) (any_synced deeds) refl
 

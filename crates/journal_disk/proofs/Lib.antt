@@ -4,3 +4,5 @@ mod Tapes
 mod Overwriting
 pub mod MomentLemmas
 pub mod Staging
+pub mod Calling
+pub mod Driving

@@ -1,6 +1,7 @@
 //! A disk with one file, as a journal sees it.
 
-ghost use Rattle.std.specs.Prelude.{◌≡◌, ◌+◌, ◌^◌, ◌<◌, ◌≤◌, ℕ, List, length, take, drop, IfOk, OnOk, OnErr};
+ghost use Rattle.std.specs.Prelude.{◌≡◌, ◌+◌, ◌^◌, ◌<◌, ◌≤◌, ℕ, List, length, take, drop, IfOk, OnOk, OnErr, Bool};
+ghost use Rattle.journal_disk.specs.Calls.{Call, Makes, Sizes, Reads, Writes, Cuts, Syncs};
 ghost use Rattle.journal_disk.specs.Disk.{Room, room_after, with_bytes, Torn, PartCut, Follows, AddsNothing, Only, Elapses, IsCounted, IsUntouched};
 
 use io_edges::Failed;
@@ -36,13 +37,20 @@ pub trait Disk {
     // What a disk is once its power went off and came on again.
     ghost off: { Self → Self → Type 0 };
 
+    // What a device call makes of the disk, where it succeeds and where it fails.
+    ghost made: { Self → Call → Bool → Self → Type 0 };
+
+    // What a disk is once there is more room.
+    ghost alike: { Self → Self → Type 0 };
+
     /// How many bytes the file has.
     fn size(&mut self) -> Result<u32, Failed>
         ensures size { IfOk result (λ size. size ≡ length (seen self.old)) }
         ensures untouched { IsUntouched (seen self.old) (seen self.new) (may_leave self.old) (may_leave self.new) }
         ensures room { room self.new ≡ room self.old }
         ensures time { Elapses (moment self.old) (moment self.new) (left_since self.old) (left_since self.new) (may_leave self.new) }
-        ensures counted { IsCounted (calls self.old) (calls self.new) (faults self.old) (faults self.new) result };
+        ensures counted { IsCounted (calls self.old) (calls self.new) (faults self.old) (faults self.new) result }
+        ensures makes { Makes made self.old Sizes self.new result };
 
     /// Reads the bytes from `at` on, as many as `buf` takes.
     fn read(&mut self, at: u32, buf: &mut [u8]) -> Result<(), Failed>
@@ -51,7 +59,8 @@ pub trait Disk {
         ensures untouched { IsUntouched (seen self.old) (seen self.new) (may_leave self.old) (may_leave self.new) }
         ensures room { room self.new ≡ room self.old }
         ensures time { Elapses (moment self.old) (moment self.new) (left_since self.old) (left_since self.new) (may_leave self.new) }
-        ensures counted { IsCounted (calls self.old) (calls self.new) (faults self.old) (faults self.new) result };
+        ensures counted { IsCounted (calls self.old) (calls self.new) (faults self.old) (faults self.new) result }
+        ensures makes { Makes made self.old (Reads at (length buf.old)) self.new result };
 
     /// Writes over what is there, and past the end. Until a sync a crash may leave any bytes in the range.
     /// After a write that failed the same is true, and the file reads as any of these.
@@ -64,7 +73,8 @@ pub trait Disk {
         ensures crash { Follows (Torn at (length bytes.now)) (may_leave self.old) (may_leave self.new) }
         ensures room { room self.new ≡ room_after (room self.old) (length bytes.now) }
         ensures time { Elapses (moment self.old) (moment self.new) (left_since self.old) (left_since self.new) (may_leave self.new) }
-        ensures counted { IsCounted (calls self.old) (calls self.new) (faults self.old) (faults self.new) result };
+        ensures counted { IsCounted (calls self.old) (calls self.new) (faults self.old) (faults self.new) result }
+        ensures makes { Makes made self.old (Writes at bytes.now) self.new result };
 
     /// Cuts the file to `size` bytes. Until a sync a crash may leave any length from there to the old one,
     /// and after a cut that failed the file reads as any of these.
@@ -75,7 +85,8 @@ pub trait Disk {
         ensures crash { Follows (PartCut size) (may_leave self.old) (may_leave self.new) }
         ensures room { room self.new ≡ room_after (room self.old) 0 }
         ensures time { Elapses (moment self.old) (moment self.new) (left_since self.old) (left_since self.new) (may_leave self.new) }
-        ensures counted { IsCounted (calls self.old) (calls self.new) (faults self.old) (faults self.new) result };
+        ensures counted { IsCounted (calls self.old) (calls self.new) (faults self.old) (faults self.new) result }
+        ensures makes { Makes made self.old (Cuts size) self.new result };
 
     /// Makes what a read gives last. From then on a crash leaves that. A sync that failed adds nothing to
     /// what a crash may leave.
@@ -86,7 +97,8 @@ pub trait Disk {
         ensures crash { AddsNothing (may_leave self.old) (may_leave self.new) }
         ensures room { room self.new ≡ room_after (room self.old) 0 }
         ensures time { Elapses (moment self.old) (moment self.new) (left_since self.old) (left_since self.new) (may_leave self.new) }
-        ensures counted { IsCounted (calls self.old) (calls self.new) (faults self.old) (faults self.new) result };
+        ensures counted { IsCounted (calls self.old) (calls self.new) (faults self.old) (faults self.new) result }
+        ensures makes { Makes made self.old Syncs self.new result };
 
     /// Makes room for so many calls and bytes, and changes nothing else.
     fn reserve(&mut self, more_calls: u32, more_bytes: u32) -> Result<(), AllocError>
@@ -95,7 +107,8 @@ pub trait Disk {
         ensures untouched { IsUntouched (seen self.old) (seen self.new) (may_leave self.old) (may_leave self.new) }
         ensures time { Elapses (moment self.old) (moment self.new) (left_since self.old) (left_since self.new) (may_leave self.new) }
         ensures same_calls { calls self.new ≡ calls self.old }
-        ensures same_faults { faults self.new ≡ faults self.old };
+        ensures same_faults { faults self.new ≡ faults self.old }
+        ensures alike { alike self.old self.new };
 
     /// Lets the power go off and come on again. The file then reads as one of those that a crash might have
     /// left.

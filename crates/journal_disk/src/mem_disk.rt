@@ -59,6 +59,7 @@ impl MemDisk {
 
 impl Disk for MemDisk {
     ghost use Rattle.journal_disk.specs.Past.{LeftBy, LeftSince, left_now, only_left, reads_file};
+    ghost use Rattle.journal_disk.specs.Drive.{MemAlike, MemMakes};
 
     ghost seen = { λ disk. file_of disk.tape.past };
 
@@ -75,6 +76,10 @@ impl Disk for MemDisk {
     ghost room = { λ disk. disk.tape.room };
 
     ghost off = { λ disk now. now ≡ after_off disk };
+
+    ghost made = { λ disk call ok now. MemMakes disk call ok now };
+
+    ghost alike = { λ disk other. MemAlike disk other };
 
     ghost reads_one = { λ disk. reads_file disk.tape.past };
 

@@ -2,6 +2,7 @@
 
 ghost use Rattle.std.specs.Prelude.{◌≡◌, ◌+◌, ◌<◌, ◌≤◌, ◌^◌, [], ◌∷◌, length, OnOk, OnErr};
 ghost use Rattle.io_edges.specs.Faults.{Rose};
+ghost use Rattle.journal_disk.specs.Calls.{DoesAll, put_calls, start_calls};
 ghost use Rattle.journal_disk.specs.Disk.{Only};
 ghost use Rattle.journal_disk.specs.Moments.{LeavesOnly, IsStagedOrWritten, opened, IsFew, three_more, four_more};
 
@@ -19,6 +20,7 @@ pub fn put_behind<D: Disk>(disk: &mut D, end: u32, bytes: &[u8]) -> Result<(), F
     ensures reads { OnOk result (D.seen disk.new ≡ opened (D.seen disk.old) end bytes.now) }
     ensures durable { OnOk result (Only (D.seen disk.new) (D.may_leave disk.new)) }
     ensures any_moment { LeavesOnly D.moment D.left_since disk.old disk.new (IsStagedOrWritten (D.seen disk.old) end bytes.now) }
+    ensures makes { DoesAll D.made (put_calls end bytes.now) disk.old disk.new result }
     ensures calls { OnOk result (D.calls disk.new ≡ four_more (D.calls disk.old)) }
     ensures fault { OnErr result (Rose (D.faults disk.old) (D.faults disk.new)) }
     ensures grows { D.faults disk.old ≤ D.faults disk.new }
@@ -40,6 +42,7 @@ pub fn start_over<D: Disk>(disk: &mut D) -> Result<(), Failed>
     ensures reads { OnOk result (D.seen disk.new ≡ 0 ∷ []) }
     ensures durable { OnOk result (Only (D.seen disk.new) (D.may_leave disk.new)) }
     ensures any_moment { LeavesOnly D.moment D.left_since disk.old disk.new (IsFew (D.seen disk.old)) }
+    ensures makes { DoesAll D.made start_calls disk.old disk.new result }
     ensures calls { OnOk result (D.calls disk.new ≡ three_more (D.calls disk.old)) }
     ensures fault { OnErr result (Rose (D.faults disk.old) (D.faults disk.new)) }
     ensures grows { D.faults disk.old ≤ D.faults disk.new }

@@ -1,4 +1,4 @@
-use Rattle.std.proofs.Common.{arith, sym, ◌∙◌}
+use Rattle.std.proofs.Common.{arith, ◌∙◌}
 use Rattle.journal_disk.proofs.Pasts.{drops_write, drops_cut, enough_for, stays_synced}
 use Rattle.journal_disk.proofs.past.drop_last.Goals as goal
 

@@ -1,4 +1,4 @@
-use Rattle.std.proofs.Common.{arith, sym, ◌∙◌}
+use Rattle.std.proofs.Common.{arith}
 use Rattle.journal_disk.proofs.Overwriting.{overwritten}
 use Rattle.journal_disk.proofs.past.write_over.Goals as goal
 

@@ -1,8 +1,10 @@
-use Rattle.std.proofs.Common.{ℕ, ◌≡◌, List, [], ◌∷◌, inl, inr, length, arith, sym, ap, subst, ◌∙◌}
+use Rattle.std.proofs.Common.{ℕ, ◌≡◌, ◌+◌, List, [], ◌∷◌, inl, inr, length, arith, sym, ap, subst, ◌∙◌}
 use Rattle.journal_disk.specs.Disk.{with_bytes, Only}
 use Rattle.journal_disk.specs.Moments.{IsStagedOrWritten, opened}
 use Rattle.journal_disk.proofs.MomentLemmas.{goes_on}
 use Rattle.journal_disk.proofs.Staging.{at_start, first_left, second_left, staged_longer, gate_written}
+use Rattle.journal_disk.specs.Calls.{Syncs, Writes}
+use Rattle.journal_disk.proofs.Calling.{does_last, does_before}
 use Rattle.journal_disk.proofs.sequences.put_behind.Goals as goal
 
 pub returns-in_err-write_at-clause-any_moment : goal.returns-in_err-write_at-clause-any_moment
@@ -60,3 +62,16 @@ returns-clause-any_moment g c =
     let e3 = goes_on k.moment k.left_since old c.sync.new.self c.write_at-2.new.self P (k.may_leave c.write_at-2.new.self) e2 c.write_at-2.ensures.time second in
     let e4 = goes_on k.moment k.left_since old c.write_at-2.new.self c.sync-2.new.self P (k.may_leave c.sync-2.new.self) e3 c.sync-2.ensures.time (λ f now. second f (c.sync-2.ensures.crash f now)) in
     e4
+
+pub returns-clause-makes : goal.returns-clause-makes
+returns-clause-makes g c =
+    let made = g.D.Disk.made in
+    let end = c.args.end in
+    let bytes = c.args.bytes.now in
+    let first = c.write_at.new.self in
+    let second = c.sync.new.self in
+    let third = c.write_at-2.new.self in
+    let last = does_last made third c.sync-2.new.self Syncs c.sync-2.result c.sync-2.ensures.makes in
+    let three = does_before made second third c.sync-2.new.self (Writes end (1 ∷ [])) (Syncs ∷ []) c.sync-2.result c.in_ok-write_at-2.ensures.makes.done last in
+    let two = does_before made first second c.sync-2.new.self Syncs (Writes end (1 ∷ []) ∷ Syncs ∷ []) c.sync-2.result c.in_ok-sync.ensures.makes.done three in
+    does_before made c.args.disk.now first c.sync-2.new.self (Writes (end + 1) bytes) (Syncs ∷ Writes end (1 ∷ []) ∷ Syncs ∷ []) c.sync-2.result c.in_ok-write_at.ensures.makes.done two

@@ -1,5 +1,4 @@
-use Rattle.std.proofs.Common.{arith, sym, ◌∙◌, ap, length, subst, List}
-use Rattle.journal_disk.specs.declared.past.Change.{Change}
+use Rattle.std.proofs.Common.{arith}
 use Rattle.journal_disk.proofs.Tapes.{reserved}
 use Rattle.journal_disk.proofs.past.Tape.reserve.Goals as goal
 

@@ -1,7 +1,3 @@
-use Rattle.std.proofs.Common.{[], length, sym, ◌∙◌, subst, List, ℕ}
-use Rattle.journal_disk.specs.declared.past.Change.{Change}
-use Rattle.journal_disk.specs.Past.{AreDoable, deeds_of, file_of}
-use Rattle.std.specs.Prelude.{take, ◌≡◌}
 use Rattle.journal_disk.proofs.Tapes.{rewound_doable, rewound_tape}
 use Rattle.journal_disk.proofs.past.Tape.rewind.Goals as goal
 

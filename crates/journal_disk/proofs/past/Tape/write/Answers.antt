@@ -1,7 +1,7 @@
-use Rattle.std.proofs.Common.{length, arith, sym, ◌∙◌, ap, refl}
+use Rattle.std.proofs.Common.{length, arith, ◌∙◌, ap, refl}
 use Rattle.std.proofs.lemmas.List.{take_all, length-take}
 use Rattle.journal_disk.specs.declared.past.Change.TheVariants.{Write}
-use Rattle.journal_disk.specs.Past.{Deed, Written, Taped, after_deed, deeds_of}
+use Rattle.journal_disk.specs.Past.{Written, Taped, after_deed, deeds_of}
 use Rattle.std.specs.Prelude.{List, ℕ, take, ◌≡◌, ◌+◌, ◌≤◌}
 use Rattle.journal_disk.proofs.Tapes.{grown_tape, grown_view, size_within}
 use Rattle.journal_disk.proofs.past.Tape.write.Goals as goal
