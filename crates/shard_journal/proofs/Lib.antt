@@ -1,0 +1,5 @@
+pub mod Bodies
+pub mod Files
+mod Scans
+mod NextBlocks
+mod Adding
