@@ -17,14 +17,14 @@ struct RecordId {
 
 struct Cell {
     id: RecordId,
-    bytes: Arc<Vec<u8>>,
+    bytes: Arc<[u8]>,
 }
 
 struct Entry {
     place: u32,
     #[allow(dead_code)]
     id: RecordId,
-    bytes: Option<Vec<u8>>,
+    bytes: Option<Arc<[u8]>>,
 }
 
 /// A change of the file, as the record of the disk has it.
@@ -154,7 +154,7 @@ fn read_entries(kept: u32, body: &[u8]) -> Option<(u32, Vec<Entry>)> {
                 if len > 4_096 || rest.len() < 12 + len {
                     return None;
                 }
-                let bytes = rest[12..12 + len].to_vec();
+                let bytes = Arc::from(&rest[12..12 + len]);
                 rest = &rest[12 + len..];
                 Some(bytes)
             }
@@ -260,7 +260,7 @@ fn full_store() -> Vec<Cell> {
                     client: j % 16,
                     number: 1 + BATCH * i + j,
                 },
-                bytes: Arc::new(DATA.to_vec()),
+                bytes: Arc::from(DATA.as_slice()),
             });
         }
     }
