@@ -1,0 +1,10 @@
+pub mod Loads
+pub mod Permuted
+pub mod FirstNumbers
+pub mod Acts
+pub mod Searches
+pub mod Walks
+pub mod FoundNumbers
+pub mod PeekEvents
+pub mod Counting
+pub mod WholeDiaries

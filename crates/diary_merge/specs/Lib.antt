@@ -1,0 +1,4 @@
+pub mod Weights
+pub mod Acts
+pub mod Numbering
+pub mod Merging
