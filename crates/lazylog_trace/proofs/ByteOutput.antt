@@ -11,7 +11,7 @@ use Rattle.io_edges.specs.declared.status.Status.TheVariants.{WriteFault, Memory
 use Rattle.lazy_msgs.specs.declared.input.WorldEvent.{WorldEvent}
 use Rattle.lazy_rules.specs.WorldRules.{run}
 use Rattle.io_edges.specs.Telling.{Fails}
-use Rattle.lazylog_trace.specs.Traced.{FailedIn, Led, Writes}
+use Rattle.lazylog_trace.specs.Calls.{FailedIn, Led, Writes}
 use Rattle.world_facts.proofs.Runs.{run_append}
 use Rattle.lazylog_trace.proofs.OutputRuns.{bytes_follow}
 use Rattle.lazylog_trace.specs.Output.{Progress, Output, behind, line_output, long_output, byte_output, goes_on, continued, continued_from, bytes_output}

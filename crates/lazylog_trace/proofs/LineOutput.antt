@@ -11,7 +11,7 @@ use Rattle.lazylog_trace.specs.declared.apply.Outcome.TheVariants.{Through, Spen
 use Rattle.trace_script.specs.declared.command.Command.{Command}
 use Rattle.lazylog_trace.specs.Apply.{Applies, Applied, applied, events_of, command_texts}
 use Rattle.lazy_rules.specs.WorldRules.{run}
-use Rattle.lazylog_trace.specs.Traced.{Led, Writes}
+use Rattle.lazylog_trace.specs.Calls.{Led, Writes}
 use Rattle.lazylog_trace.proofs.AppliedEvents.{until_spent_run}
 use Rattle.script_streams.specs.Texts.{printed}
 use Rattle.lazylog_trace.specs.Output.{Progress, Output, lines_limit, counted, parsed_output, command_output, line_output, stops, command_text}

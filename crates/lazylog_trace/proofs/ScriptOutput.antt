@@ -11,7 +11,7 @@ use Rattle.lazy_rules.specs.WorldState.{WorldState}
 use Rattle.lazy_rules.specs.WorldRules.{run}
 use Rattle.lazylog_trace.specs.Output.{Progress, Output, behind, byte_output, line_output, continued, bytes_output, end_output, script_output}
 use Rattle.script_streams.specs.Streams.{HasBytes, SourceUse}
-use Rattle.lazylog_trace.specs.Traced.{FailedIn, Led, RanOf, Writes}
+use Rattle.lazylog_trace.specs.Calls.{FailedIn, Led, RanOf, Writes}
 use Rattle.world_facts.proofs.Runs.{run_append}
 use Rattle.lazylog_trace.proofs.OutputRuns.{bytes_follow}
 use Rattle.lazylog_trace.proofs.ByteOutput.{SoFar, output_pieces, writes_further, continued_ok, continued_err}

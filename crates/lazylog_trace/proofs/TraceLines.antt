@@ -13,7 +13,7 @@ use Rattle.lazylog_trace.specs.Apply.{Applies, applied, events_of}
 use Rattle.lazylog_trace.specs.Output.{Progress, command_text, line_output, lines_limit}
 use Rattle.script_streams.specs.Streams.{IsWritten, SinkUse}
 use Rattle.lazylog_trace.specs.Trace.{progress_of}
-use Rattle.lazylog_trace.specs.Traced.{Led, Writes}
+use Rattle.lazylog_trace.specs.Calls.{Led, Writes}
 use Rattle.lazylog_trace.proofs.LineOutput.{applied_world, done_led, failed_writes, spent_writes, through_writes}
 
 module _ (old counted : Trace) (is : counted ≡ record old { lines = old.lines + 1 }) (lt : old.lines < lines_limit) (bytes : List ℕ) (bytes_are : bytes ≡ counted.part.items) (command : Command) (says : command_of bytes ≡ Some command) where

@@ -14,7 +14,8 @@ use Rattle.lazy_core.specs.declared.trail.Trail.{Trail}
 use Rattle.lazy_core.specs.Filled.{IsFilled}
 use Rattle.lazylog_trace.specs.Output.{Progress, first_progress, bytes_output, line_output, script_output, closing, closing_of, last_text, status_of, stop_text, out, out_read}
 use Rattle.script_streams.specs.Streams.{HasBytes, SinkUse, SourceUse}
-use Rattle.lazylog_trace.specs.Traced.{Closed, FailedIn, IsTrace, Ran, RanOf, ReadOf, Traced, TracedTo}
+use Rattle.lazylog_trace.specs.Calls.{Closed, FailedIn, Ran, RanOf, TracedTo}
+use Rattle.lazylog_trace.specs.Traced.{IsTrace, ReadOf, Traced}
 use Rattle.lazylog_trace.specs.Printed.{Shows}
 use Rattle.lazylog_trace.proofs.PrintedHistory.{shown}
 use Rattle.rec_id.specs.declared.event.Event.{Event}

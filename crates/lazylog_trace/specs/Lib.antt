@@ -5,5 +5,6 @@ pub mod Apply
 pub mod Output
 pub mod Trace
 pub mod Traced
+pub mod Calls
 pub mod Printed
 pub mod LoadOutput

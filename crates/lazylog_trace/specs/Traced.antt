@@ -1,4 +1,4 @@
-use Rattle.std.specs.Prelude.{◌≡◌, ◌≢◌, ◌⊎◌, ℕ, List, [], ◌∷◌, ◌++◌, Option, None, Result, Ok, Err, OnOk, IfErr}
+use Rattle.std.specs.Prelude.{◌≡◌, ◌≢◌, ◌⊎◌, ℕ, List, [], ◌∷◌, ◌++◌, Option, Ok, Err}
 use Rattle.std.specs.Io.KnownBytes.{append_known, IsAtEnd}
 use Rattle.view_config.specs.Shape.{Dimensions}
 use Rattle.io_edges.specs.Faults.{Rose}
@@ -6,44 +6,20 @@ use Rattle.io_edges.specs.Telling.{Fails, Stops}
 use Rattle.io_edges.specs.declared.status.Status.{Status}
 use Rattle.io_edges.specs.declared.status.Status.TheVariants.{Done, Usage, ReadFault, WriteFault, Memory}
 use Rattle.lazy_msgs.specs.declared.input.WorldEvent.{WorldEvent}
-use Rattle.lazy_rules.specs.WorldState.{WorldState, first_world}
+use Rattle.lazy_rules.specs.WorldState.{first_world}
 use Rattle.lazy_rules.specs.WorldRules.{run}
 use Rattle.lazy_core.specs.declared.trail.Trail.{Trail}
 use Rattle.lazy_core.specs.Filled.{IsFilled}
-use Rattle.lazylog_trace.specs.Output.{Progress, Output, first_progress, bytes_output, line_output, script_output, closing, closing_of, out, end_of, out_read}
+use Rattle.lazylog_trace.specs.Output.{Progress, Output, first_progress, bytes_output, line_output, script_output, closing, out, end_of, out_read}
 use Rattle.script_streams.specs.Texts.{with_newline}
 use Rattle.lazylog_trace.specs.Printed.{Shows}
 use Rattle.script_streams.specs.Streams.{HasBytes, SinkUse, SourceUse}
 use Rattle.lazylog_trace.specs.Words.{AskFor, usage_text}
 use Rattle.lazylog_trace.specs.declared.words.Task.TheVariants.{Trace}
 
--- What a trace does: what of its output is written, which events are applied, and what its trail has then,
--- whatever it ends with. From the bottom up:
---   `Writes` and `Led`     what a call on some bytes writes, and to which world it leads;
---   `Ran` and `RanOf`      what the bytes of a script led to, and which bytes these are;
---   `Closed`               what the last text adds;
---   `Traced`, `TracedTo`   both together, for the bytes of a script, and for a source;
---   `IsTrace`              what `trace_top` promises: that, and the trail.
--- `ReadOf`, `FailedAt`, `FailedIn` and `FailedLast` say where a read or a write failed, and `Failed` which write it
--- was.
-
--- what of an output is written, and how far the script is, after a call that had this outcome: all of it where it
--- went on or stopped; a front of it, whatever happened; and not all of it where a write failed
-pub record Writes {R : Type 0} (t : Output) (before after : Option (List ℕ)) (now : Progress) (outcome : Result R Status) : Type 0 where
-  pub on : OnOk outcome (t.now ≡ Ok now)
-  pub whole : OnOk outcome (after ≡ append_known before t.text)
-  pub stopped : IfErr outcome (λ status. status ≢ WriteFault → status ≢ Memory → t.now ≡ Err status)
-  pub written : IfErr outcome (λ status. status ≢ WriteFault → status ≢ Memory → after ≡ append_known before t.text)
-  pub failed : outcome ≡ Err WriteFault → Fails before after t.text
-  pub front : Stops before after t.text
-
--- these events led from one world to another, unless there was no memory
-pub record Led {R : Type 0} (events : List WorldEvent) (before after_all : WorldState) (outcome : Result R Status) : Type 0 where
-  pub leads : outcome ≢ Err Memory → after_all ≡ run events before
-
--- the same of a call that stopped, unless a write failed or there was no memory
-abbrev pub LedToStop : {R : Type 0} → List WorldEvent → WorldState → WorldState → Result R Status → Type 0
-LedToStop events before after_all outcome = IfErr outcome (λ status. status ≢ WriteFault → status ≢ Memory → after_all ≡ run events before)
+-- What a trace promises: what of its output is written, which events are applied, and what its trail has then,
+-- whatever it ends with. `ReadOf` and `Failed` say where a read or a write failed, `Traced` what the bytes of a script
+-- led to, and `IsTrace` what `trace_top` promises: that, and the trail.
 
 -- a script line ends here: at a newline, or at the end of the script
 abbrev pub EndsLine : List ℕ → Type 0
@@ -61,15 +37,6 @@ pub record FailedAt (start : Progress) (bytes : List ℕ) (before after : Option
   pub on : (bytes_output start read).now ≡ Ok now
   pub front : Fails (append_known before (bytes_output start read).text) after (line_output now).text
 
--- and this world is the one behind that line
-pub record FailedIn (start : Progress) (bytes : List ℕ) (before after : Option (List ℕ)) (world : WorldState) : Type 0 where
-  pub place : FailedAt start bytes before after
-  pub world_is : world ≡ run (line_output place.now).events place.now.world
-
--- where a write failed, it did so in these bytes, whatever comes behind them
-abbrev pub FailsIn : {R : Type 0} → Progress → List ℕ → Option (List ℕ) → Option (List ℕ) → WorldState → Result R Status → Type 0
-FailsIn start bytes before after world outcome = (more : List ℕ) → outcome ≡ Err WriteFault → FailedIn start (bytes ++ more) before after world
-
 -- the source failed behind some bytes of the script, and no script line among them stopped the trace
 pub record ReadOf (source : SourceUse) (start : Progress) (bytes : List ℕ) : Type 0 where
   pub read : List ℕ
@@ -79,32 +46,6 @@ pub record ReadOf (source : SourceUse) (start : Progress) (bytes : List ℕ) : T
   pub left_is : HasBytes source.left rest
   pub rose : Rose source.faults source.faults_now
   pub on : (bytes_output start read).now ≡ Ok now
-
--- what a script that has these bytes led to: it was read to its end, or to the script line that stops
--- it; or the source failed on the way; or the sink did, or there was no memory
-pub record Ran {R : Type 0} (source : SourceUse) (start : Progress) (bytes : List ℕ) (before after : Option (List ℕ)) (now : Progress) (outcome : Result R Status) : Type 0 where
-  pub on : OnOk outcome ((script_output start bytes).now ≡ Ok now)
-  pub ended : OnOk outcome (IsAtEnd source.left)
-  pub faultless : outcome ≢ Err ReadFault → source.faults_now ≡ source.faults
-  pub whole : OnOk outcome (after ≡ append_known before (script_output start bytes).text)
-  pub stopped : IfErr outcome (λ status. status ≢ ReadFault → status ≢ WriteFault → status ≢ Memory → (script_output start bytes).now ≡ Err status)
-  pub written : IfErr outcome (λ status. status ≢ ReadFault → status ≢ WriteFault → status ≢ Memory → after ≡ append_known before (script_output start bytes).text)
-  pub led : IfErr outcome (λ status. status ≢ ReadFault → status ≢ WriteFault → status ≢ Memory → now.world ≡ run (script_output start bytes).events start.world)
-  pub read : outcome ≡ Err ReadFault → (k : ReadOf source start bytes) × (k.now ≡ now) × (after ≡ append_known before (bytes_output start k.read).text)
-  pub failed : outcome ≡ Err WriteFault → FailedIn start bytes before after now.world
-  pub front : Stops before after (script_output start bytes).text
-
--- a source had some bytes, and this is what they led to
-pub record RanOf {R : Type 0} (source : SourceUse) (start : Progress) (before after : Option (List ℕ)) (now : Progress) (outcome : Result R Status) : Type 0 where
-  pub bytes : List ℕ
-  pub has : HasBytes source.had bytes
-  pub ran : Ran source start bytes before after now outcome
-
--- the last text was written, and the trace ends with this; or the sink failed, or there was no memory
-pub record Closed (last : Option (List ℕ)) (given : Status) (before after : Option (List ℕ)) (status : Status) : Type 0 where
-  pub outcome : ((status ≡ given) × (after ≡ append_known before (closing_of last))) ⊎ (((status ≡ WriteFault) × Fails before after (closing_of last)) ⊎ (status ≡ Memory))
-  pub front : Stops before after (closing_of last)
-  pub none : last ≡ None → (after ≡ before) × ((status ≡ given) ⊎ (status ≡ Memory))
 
 -- the write of the last text failed: all the texts before it were written
 pub record FailedLast (t : Output) (last : List ℕ) (before after : Option (List ℕ)) (events : List WorldEvent) : Type 0 where
@@ -130,14 +71,6 @@ pub record Traced (source : SourceUse) (start : Progress) (bytes : List ℕ) (be
   pub read : status ≡ ReadFault → (k : ReadOf source start bytes) × (events ≡ (bytes_output start k.read).events) × (after ≡ append_known before (out_read start k.read))
   pub failed : status ≡ WriteFault → Failed source start bytes before after events
   pub front : Stops before after (out start bytes) ⊎ ((k : ReadOf source start bytes) × Stops before after (out_read start k.read))
-
--- a source had some bytes, a trace of them applied these events, and they led to this world
-pub record TracedTo (source : SourceUse) (start : Progress) (before after : Option (List ℕ)) (world : WorldState) (status : Status) : Type 0 where
-  pub bytes : List ℕ
-  pub has : HasBytes source.had bytes
-  pub events : List WorldEvent
-  pub traced : Traced source start bytes before after events status
-  pub led : status ≢ Memory → world ≡ run events start.world
 
 -- A trace in a shape, of the bytes that the source had, where it tells them: its trail has the history of the run of
 -- the events that were applied, and the lines of the holders then, each of them lawful for that history; and what was

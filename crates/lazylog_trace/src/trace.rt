@@ -9,7 +9,7 @@ ghost use Rattle.lazylog_trace.specs.Apply.{Advances, Applies, applied, events_o
 ghost use Rattle.lazylog_trace.specs.Output.{lines_limit, command_text, line_output, long_output, byte_output, bytes_output, end_output};
 ghost use Rattle.script_streams.specs.Streams.{IsWritten, Stopped, sink_use};
 ghost use Rattle.lazylog_trace.specs.Trace.{IsUnderWay, bytes_left, progress_of};
-ghost use Rattle.lazylog_trace.specs.Traced.{FailsIn, Led, LedToStop, Writes};
+ghost use Rattle.lazylog_trace.specs.Calls.{FailsIn, Led, LedToStop, Writes};
 
 use crate::apply::{Outcome, apply};
 use crate::output::write_texts;

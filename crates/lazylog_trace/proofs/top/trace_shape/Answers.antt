@@ -5,7 +5,7 @@ use Rattle.lazy_core.specs.Filled.{IsFilled}
 use Rattle.lazylog_trace.specs.Output.{Progress, first_progress, last_text, status_of}
 use Rattle.script_streams.specs.Streams.{sink_use, source_use}
 use Rattle.lazylog_trace.specs.Trace.{progress_of}
-use Rattle.lazylog_trace.specs.Traced.{Closed, TracedTo}
+use Rattle.lazylog_trace.specs.Calls.{Closed, TracedTo}
 use Rattle.lazylog_trace.proofs.TraceOutput.{both_traced, filled_trace, memory_trace}
 use Rattle.lazylog_trace.proofs.top.trace_shape.Goals as goal
 
