@@ -10,7 +10,7 @@ ghost use Rattle.lazy_msgs.specs.FrameLimits.{Fits};
 ghost use Rattle.lazy_msgs.specs.declared.msg.Envelope.{Envelope};
 ghost use Rattle.view_config.specs.declared.edition.Edition.{Edition};
 ghost use Rattle.wire_frames.specs.declared.offence.FrameError.TheVariants.{Memory};
-ghost use Rattle.wire_frames.specs.Readers.{Gives, edition_at, envelope_at, frame_at, kind_at, last_kind, whole_at};
+ghost use Rattle.wire_frames.specs.Readers.{Gives, edition_at, kind_at, last_kind, whole_at};
 
 mod fields;
 mod lists;
@@ -72,49 +72,31 @@ fn kind_of(edition: Edition, left: &mut &[u8]) -> Result<u8, FrameError>
     }
 }
 
-#[tactic(auto, unfolding(crate::specs::Readers::envelope_at))]
-fn envelope_of(
-    alloc: Global,
-    edition: Edition,
-    size: usize,
-    left: &mut &[u8],
-) -> Result<Envelope, FrameError>
-    ensures { Gives result left.new.now (envelope_at size edition left.old.now) }
-{
-    let kind = kind_of(edition, left)?;
-    let from = node_of(size, left)?;
-    let to = addressee_of(size, left)?;
-    let time = time_of(size, left)?;
-    let msg = message_of(alloc, edition, size, kind, left)?;
-    Ok(Envelope {
-        from,
-        to,
-        time,
-        msg,
-    })
-}
-
-#[tactic(auto, unfolding(crate::specs::Readers::frame_at))]
-fn frame_of(alloc: Global, size: usize, left: &mut &[u8]) -> Result<(Edition, Envelope), FrameError>
-    ensures { Gives result left.new.now (frame_at size left.old.now) }
-{
-    let edition = edition_of(left)?;
-    let env = envelope_of(alloc, edition, size, left)?;
-    Ok((edition, env))
-}
-
-#[tactic(auto, unfolding(crate::specs::Readers::whole_at))]
+#[tactic(auto, unfolding(crate::specs::Readers::envelope_at, crate::specs::Readers::frame_at, crate::specs::Readers::whole_at))]
 fn whole_of(alloc: Global, bytes: &[u8]) -> Result<(Edition, Envelope), FrameError>
     ensures found { IfOk result (λ found. whole_at bytes.now ≡ Ok found) }
     ensures offence { IfErr result (λ offence. offence ≢ Memory → whole_at bytes.now ≡ Err offence) }
 {
     let size = bytes.len();
     let mut left = bytes;
-    let found = frame_of(alloc, size, &mut left)?;
+    let edition = edition_of(&mut left)?;
+    let kind = kind_of(edition, &mut left)?;
+    let from = node_of(size, &mut left)?;
+    let to = addressee_of(size, &mut left)?;
+    let time = time_of(size, &mut left)?;
+    let msg = message_of(alloc, edition, size, kind, &mut left)?;
     if !left.is_empty() {
         return Err(FrameError::Trailing(size.saturating_sub(left.len())));
     }
-    Ok(found)
+    Ok((
+        edition,
+        Envelope {
+            from,
+            to,
+            time,
+            msg,
+        },
+    ))
 }
 
 /// The envelope that the bytes are the frame of, with the edition of the frame: its first byte says
