@@ -128,6 +128,8 @@ impl<D: Disk> Journal<D> {
         ensures no_call { result ≡ Err JournalRefused.Memory → D.calls self.new.disk ≡ D.calls self.old.disk }
         ensures puts { Puts D.made D.alike self.old self.new block result }
         ensures full_same { result ≡ Err JournalRefused.Full → self.new ≡ self.old }
+        ensures fault_same { result ≡ Err JournalRefused.DiskFault → (self.new.kept ≡ self.old.kept) × (self.new.end ≡ self.old.end) }
+        ensures undamaged { (at : ℕ) → result ≢ Err (JournalRefused.Damaged at) }
     {
         let to = block.to;
         write_block(self.alloc, block, &mut self.buffer)?;
@@ -172,6 +174,8 @@ impl<D: Disk> Journal<D> {
         ensures no_call { result ≡ Err JournalRefused.Memory → D.calls self.new.disk ≡ D.calls self.old.disk }
         ensures puts { self.old.closed ≡ false → self.old.kept < store.now.stable → Puts D.made D.alike self.old self.new (next_block store.now self.old.kept) result }
         ensures full_same { result ≡ Err JournalRefused.Full → self.new ≡ self.old }
+        ensures fault_same { result ≡ Err JournalRefused.DiskFault → (self.new.kept ≡ self.old.kept) × (self.new.end ≡ self.old.end) }
+        ensures undamaged { (at : ℕ) → result ≢ Err (JournalRefused.Damaged at) }
     {
         if self.closed {
             return Err(JournalRefused::Closed);
