@@ -1,0 +1,16 @@
+pub mod CommandLine
+pub mod Texts
+pub mod Outputs
+pub mod LineOutput
+pub mod Far
+pub mod Ends
+pub mod Steps
+pub mod Parts
+pub mod Devices
+pub mod Opening
+pub mod Sounds
+pub mod Keeping
+pub mod Reopening
+pub mod LineCounts
+pub mod Sayable
+pub mod Outliving
