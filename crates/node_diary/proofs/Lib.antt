@@ -1,0 +1,14 @@
+pub mod SeqSeats
+pub mod ShardNoops
+pub mod Idle
+pub mod Seats
+pub mod FirstStates
+pub mod Folds
+pub mod Writes
+pub mod Feeds
+pub mod Kept
+pub mod NodeOrder
+pub mod Histories
+pub mod Snapshots
+pub mod Replays
+pub mod GivenDiaries

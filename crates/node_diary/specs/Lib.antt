@@ -1,0 +1,10 @@
+pub mod States
+pub mod Refusals
+pub mod Feeding
+pub mod Fed
+pub mod Given
+pub mod Calling
+pub mod Writing
+pub mod Taken
+pub mod Folding
+pub mod Replaying
