@@ -19,7 +19,7 @@ pub(crate) struct Net {
     time: u64,
 }
 
-/// What happens. A message goes by its number, from 1. A post is of the record `a`, and a read of the first place.
+/// What happens. A message goes by its number, from 1. A read is of the first place.
 #[derive(Clone, Copy)]
 pub(crate) enum Act {
     Post(u32),
@@ -40,6 +40,12 @@ pub(crate) fn node_at(alloc: Global, shape: &Shape, number: u32) -> Result<Diary
         return Err("no such node")?;
     }
     Ok(DiaryNode::new(alloc, number, first_state(alloc, shape, number)?))
+}
+
+/// What a client appends: the first `a`, the others `b`.
+fn record_of(alloc: Global, client: u32) -> Result<Bytes, Fail> {
+    let bytes = if client == 0 { b"a" } else { b"b" };
+    Ok(Bytes::copy(alloc, bytes.as_slice())?)
 }
 
 /// The identities that a shard replica has in its order at the first places.
@@ -119,7 +125,7 @@ impl Net {
     /// The act as an event of a world with these messages, `None` where it is none.
     pub(crate) fn event(&self, alloc: Global, act: Act) -> Result<Option<WorldEvent>, Fail> {
         Ok(Some(match act {
-            Act::Post(c) => WorldEvent::Post(c, Bytes::copy(alloc, b"a")?),
+            Act::Post(c) => WorldEvent::Post(c, record_of(alloc, c)?),
             Act::Read(c) => WorldEvent::Ask(c, Ask::Range { from: 0, to: 1 }),
             Act::Tail(c) => WorldEvent::Ask(c, Ask::Tail { from: 0 }),
             Act::Peek(client) => match self.claim() {
@@ -163,7 +169,7 @@ impl Net {
     /// The act as an input, and whose it is.
     fn input(&self, alloc: Global, act: Act) -> Result<(u32, Input), Fail> {
         match act {
-            Act::Post(c) => Ok((c, Input::Post(Bytes::copy(alloc, b"a")?))),
+            Act::Post(c) => Ok((c, Input::Post(record_of(alloc, c)?))),
             Act::Read(c) => Ok((c, Input::Ask(Ask::Range { from: 0, to: 1 }))),
             Act::Tail(c) => Ok((c, Input::Ask(Ask::Tail { from: 0 }))),
             Act::Peek(c) => Ok((c, self.peek(alloc)?)),
