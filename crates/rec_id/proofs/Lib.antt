@@ -1,1 +1,2 @@
 pub mod MarkBits
+pub mod Slices

@@ -1,4 +1,4 @@
--- What the memory of a record's data has. A list of bytes is a front of it.
+-- What the memory of a record's data has. A list of bytes is a slice of it.
 use Rattle.std.specs.Prelude.{ℕ, List}
 use Rattle.rec_id.specs.declared.bytes.Block.{Block}
 use Rattle.rec_id.specs.declared.bytes.Block.TheVariants.{Short, Long}

@@ -3,7 +3,7 @@
 //! Data is shared, not copied: a clone has the same bytes in memory as its source, and counts as one
 //! more owner of them. What several own is never written.
 
-ghost use Rattle.std.specs.Prelude.{◌≡◌, ◌<◌, ◌≤◌, ◌+◌, ◌++◌, ◌↔◌, List, [], ◌∷◌, length, replicate, take, slice_get, IsNone, IfOk, IfSome, IfNone, OnOk, OnErr, Some};
+ghost use Rattle.std.specs.Prelude.{◌≡◌, ◌<◌, ◌≤◌, ◌+◌, ◌++◌, ◌↔◌, List, [], ◌∷◌, length, replicate, take, drop, slice_get, IsNone, IfOk, IfSome, IfNone, OnOk, OnErr, Some};
 ghost use Rattle.std.specs.Arc.{arc_value};
 ghost use Rattle.rec_id.specs.Sharing.{bytes_of};
 ghost use Rattle.rec_id.specs.declared.bytes.Block.TheVariants.{Short};
@@ -113,26 +113,28 @@ fn share(alloc: Global, bytes: &[u8]) -> Result<Arc<Block>, AllocError>
 
 /// A list of bytes. How many a record may have is a matter of the edition (`view_config`).
 ///
-/// A clone takes no memory, and costs the same for any number of bytes.
+/// A clone takes no memory, and costs the same for any number of bytes. So does a slice: its bytes are
+/// those of the list, all of which stay in memory for as long as a slice of them does.
 #[derive(Drop)]
 pub struct Bytes {
     alloc: Global,
-    /// The list is a front of this.
+    /// The list is what this has from `start` on, up to `end`.
     block: Option<Arc<Block>>,
-    len: usize,
+    start: u32,
+    end: u32,
 }
 
 impl Model for Bytes {
-    ghost use Rattle.std.specs.Prelude.{List, ℕ, ◌≤◌, [], length, take};
+    ghost use Rattle.std.specs.Prelude.{List, ℕ, ◌≤◌, [], length, take, drop};
     ghost use Rattle.std.specs.Option.{option_map_or};
     ghost use Rattle.std.specs.Arc.{arc_value};
     ghost use Rattle.rec_id.specs.Sharing.{bytes_of};
 
     ghost Value = { List ℕ };
 
-    ghost view = { λ bytes. take bytes.len (option_map_or (λ block. bytes_of (arc_value block)) bytes.block []) };
+    ghost view = { λ bytes. drop bytes.start (take bytes.end (option_map_or (λ block. bytes_of (arc_value block)) bytes.block [])) };
 
-    ghost invariant = { λ bytes. bytes.len ≤ length (option_map_or (λ block. bytes_of (arc_value block)) bytes.block []) };
+    ghost invariant = { λ bytes. (bytes.start ≤ bytes.end) × (bytes.end ≤ length (option_map_or (λ block. bytes_of (arc_value block)) bytes.block [])) };
 }
 
 impl Clone for Bytes {
@@ -146,7 +148,8 @@ impl Clone for Bytes {
         Ok(Bytes {
             alloc: self.alloc,
             block,
-            len: self.len,
+            start: self.start,
+            end: self.end,
         })
     }
 }
@@ -159,22 +162,61 @@ impl Bytes {
         Bytes {
             alloc,
             block: None,
-            len: 0,
+            start: 0,
+            end: 0,
         }
     }
 
-    /// A copy of `bytes`.
+    /// A copy of `bytes`. More than `u32::MAX` of them count as want of memory.
     pub fn copy(alloc: Global, bytes: &[u8]) -> Result<Bytes, AllocError>
         ensures { IfOk result (λ made. made ≡ bytes.now) }
     {
         if bytes.is_empty() {
             return Ok(Bytes::new(alloc));
         }
+        let end = u32::try_from(bytes.len()).map_err(|_| AllocError)?;
         Ok(Bytes {
             alloc,
             block: Some(share(alloc, bytes)?),
-            len: bytes.len(),
+            start: 0,
+            end,
         })
+    }
+
+    /// The `len` bytes from byte `at` on, counted from 0.
+    pub fn slice(&self, at: usize, len: usize) -> Result<Bytes, AllocError>
+        requires { at + len ≤ length self.now }
+        ensures { IfOk result (λ slice. slice ≡ take len (drop at self.now)) }
+    {
+        let mut slice = self.clone()?;
+        slice.narrow(at as u32, len as u32);
+        Ok(slice)
+    }
+
+    /// Leaves the `len` bytes from byte `at` on.
+    fn narrow(&mut self, at: u32, len: u32)
+        requires { at + len ≤ length self.old }
+        ensures { self.new ≡ take len (drop at self.old) }
+    {
+        self.start += at;
+        self.end = self.start + len;
+    }
+
+    fn has_other_owners(&self) -> bool {
+        match &self.block {
+            Some(block) => Arc::strong_count(block) > 1,
+            None => false,
+        }
+    }
+
+    /// Where others own its memory too, it gets memory of its own.
+    fn unshare(&mut self) -> Result<(), AllocError>
+        ensures { self.new ≡ self.old }
+    {
+        if self.has_other_owners() {
+            *self = Bytes::copy(self.alloc, self.as_slice())?;
+        }
+        Ok(())
     }
 
     /// Appends `byte`. Where others own the bytes too, they are copied first.
@@ -182,17 +224,18 @@ impl Bytes {
         ensures ok { OnOk result (self.new ≡ self.old ++ byte ∷ []) }
         ensures err { OnErr result (self.new ≡ self.old) }
     {
-        let len = self.len.checked_add(1).ok_or(AllocError)?;
+        self.unshare()?;
+        let end = self.end.checked_add(1).ok_or(AllocError)?;
         match &mut self.block {
             Some(block) => {
                 let own = Arc::make_mut(block)?;
-                own.put(self.alloc, self.len, byte)?;
+                own.put(self.alloc, self.end as usize, byte)?;
             }
             None => {
                 self.block = Some(share(self.alloc, &[byte])?);
             }
         }
-        self.len = len;
+        self.end = end;
         Ok(())
     }
 
@@ -203,14 +246,14 @@ impl Bytes {
         ensures unchanged { IfNone result (self.new ≡ self.old) }
     {
         let last = *self.as_slice().last()?;
-        self.len -= 1;
+        self.end -= 1;
         Some(last)
     }
 
     pub fn len(&self) -> usize
         ensures { result ≡ length self.now }
     {
-        self.len
+        (self.end - self.start) as usize
     }
 
     /// Byte `i`, counted from 0.
@@ -225,7 +268,7 @@ impl Bytes {
         ensures { result.now ≡ self.now }
     {
         match &self.block {
-            Some(block) => &block.as_slice()[..self.len],
+            Some(block) => &block.as_slice()[self.start as usize..self.end as usize],
             None => &[],
         }
     }
@@ -261,6 +304,30 @@ mod tests {
             assert_eq!(rt; mine.as_slice(), bytes);
             assert_eq!(rt; theirs.as_slice(), bytes);
         }
+        Ok(())
+    }
+
+    #[test]
+    fn slices_share(rt: HostRuntime) -> Result<(), Fail> {
+        for bytes in [[7; 64].as_slice(), [7; 65].as_slice()] {
+            let whole = Bytes::copy(rt.alloc(), bytes)?;
+            let inner = whole.slice(8, 32)?;
+            let mut mine = inner.slice(30, 2)?;
+            mine.push(8)?;
+            assert_eq!(rt; mine.as_slice(), [7, 7, 8].as_slice());
+            assert_eq!(rt; inner.as_slice(), [7; 32].as_slice());
+            assert_eq!(rt; whole.as_slice(), bytes);
+            assert_eq!(rt; whole.slice(bytes.len(), 0)?.len(), 0);
+        }
+        Ok(())
+    }
+
+    #[test]
+    fn slice_is_changed_alone(rt: HostRuntime) -> Result<(), Fail> {
+        let mut mine = Bytes::copy(rt.alloc(), b"abcdef")?.slice(1, 3)?;
+        mine.push(b'x')?;
+        assert_eq!(rt; mine.pop(), Some(b'x'));
+        assert_eq!(rt; mine.as_slice(), b"bcd".as_slice());
         Ok(())
     }
 
