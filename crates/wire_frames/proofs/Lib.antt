@@ -6,6 +6,7 @@ pub mod MarkBits
 pub mod Members
 pub mod Bits
 pub mod Found
+pub mod Ends
 pub mod FoundFields
 pub mod FoundFrame
 pub mod Fronts

@@ -3,7 +3,7 @@
 -- isn't allowed is Field with the field's offset, or for the kind Kind with its byte; and what stands
 -- behind the last field is Trailing. `size` is the length of all the bytes, so a field stands at the
 -- offset `size` less the bytes that are left.
-use Rattle.std.specs.Prelude.{◌≡◌, ◌≢◌, ℕ, zero, suc, ◌-◌, ◌*◌, ◌%◌, ◌^◌, min, Bool, true, ◌&&◌, ◌||◌, ◌==◌, nat_lt, nat_le, if◌then◌else◌, List, [], ◌∷◌, length, take, drop, slice_index, Option, Some, None, Result, Ok, Err}
+use Rattle.std.specs.Prelude.{◌≡◌, ◌≢◌, ◌≤◌, ℕ, zero, suc, ◌-◌, ◌*◌, ◌%◌, ◌^◌, min, Bool, true, ◌&&◌, ◌||◌, ◌==◌, nat_lt, nat_le, if◌then◌else◌, List, [], ◌∷◌, length, take, drop, slice_index, Option, Some, None, Result, Ok, Err}
 use Rattle.std.specs.Int.{Width, w16, w32, w64, byte_len, from_be_bytes, from_le_bytes}
 use Rattle.rec_id.specs.Identity.{Identity}
 use Rattle.rec_id.specs.declared.entry.Entry.{Entry}
@@ -281,3 +281,8 @@ GivesAs view (Err offence) left read = offence ≢ Memory → read ≡ Err offen
 
 abbrev pub Gives : {A : Type 0} → Result A FrameError → List ℕ → Taken A → Type 0
 Gives result left read = GivesAs (λ x. x) result left read
+
+-- these bytes are the end of all of them
+pub record IsEnd (left all : List ℕ) : Type 0 where
+  pub within : length left ≤ length all
+  pub is : drop (length all - length left) all ≡ left

@@ -17,6 +17,7 @@ mod lists;
 mod marks;
 mod messages;
 mod numbers;
+mod pool;
 
 use crate::offence::FrameError;
 use crate::writing::encode;

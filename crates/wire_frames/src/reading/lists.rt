@@ -7,6 +7,7 @@ ghost use Rattle.wire_frames.specs.Readers.{Gives, allowed, byte_at, limited, nu
 
 use super::fields::{cell_of, id_of, item_of, placed_of};
 use super::numbers::{byte_of, counted_of, field, node_of, two_of};
+use super::pool::Pool;
 use crate::offence::FrameError;
 use crate::sizes::{ID_LEN, MEMBER_LEAST, NODE_LEN, NODES_LEAST, PLACED_LEAST};
 use lazy_msgs::BATCH_LIMIT;
@@ -52,6 +53,7 @@ fn few_of(size: usize, limit: u32, left: &mut &[u8]) -> Result<usize, FrameError
     Ok(usize::from(count))
 }
 
+#[tactic(auto, using(crate::proofs::Ends::end_same, crate::proofs::Ends::after_item))]
 fn items_in(
     alloc: Global,
     edition: Edition,
@@ -62,9 +64,10 @@ fn items_in(
     ensures { Gives result left.new.now (members_at (item_at edition size) count left.old.now) }
 {
     let mut items = Sequence::from_vec(Vec::with_capacity(alloc, room(count, MEMBER_LEAST, left))?);
+    let mut pool = Pool::new(alloc, count, left);
     let mut rest = *left;
     for _ in 0..count {
-        let item = item_of(alloc, edition, size, &mut rest)?;
+        let item = item_of(edition, size, &mut pool, &mut rest)?;
         items.push(item)?;
     }
     *left = rest;
@@ -86,6 +89,7 @@ pub fn items_of(
     items_in(alloc, edition, size, count, left)
 }
 
+#[tactic(auto, using(crate::proofs::Ends::end_same, crate::proofs::Ends::after_cell))]
 fn cells_in(
     alloc: Global,
     edition: Edition,
@@ -96,9 +100,10 @@ fn cells_in(
     ensures { Gives result left.new.now (members_at (cell_at edition size) count left.old.now) }
 {
     let mut cells = Sequence::from_vec(Vec::with_capacity(alloc, room(count, MEMBER_LEAST, left))?);
+    let mut pool = Pool::new(alloc, count, left);
     let mut rest = *left;
     for _ in 0..count {
-        let cell = cell_of(alloc, edition, size, &mut rest)?;
+        let cell = cell_of(edition, size, &mut pool, &mut rest)?;
         cells.push(cell)?;
     }
     *left = rest;
@@ -142,6 +147,7 @@ pub fn ids_of(alloc: Global, size: usize, left: &mut &[u8]) -> Result<IdList, Fr
     ids_in(alloc, size, count, left)
 }
 
+#[tactic(auto, using(crate::proofs::Ends::end_same, crate::proofs::Ends::after_placed))]
 fn entries_in(
     alloc: Global,
     edition: Edition,
@@ -155,9 +161,10 @@ fn entries_in(
         alloc,
         room(count, PLACED_LEAST, left),
     )?);
+    let mut pool = Pool::new(alloc, count, left);
     let mut rest = *left;
     for _ in 0..count {
-        let placed = placed_of(alloc, edition, size, &mut rest)?;
+        let placed = placed_of(edition, size, &mut pool, &mut rest)?;
         entries.push(placed)?;
     }
     *left = rest;

@@ -7,10 +7,12 @@ ghost use Rattle.wire_frames.specs.Readers.{Gives, bytes_at, counted_at, id_at, 
 use crate::offence::FrameError;
 use crate::reading::fields::{bytes_of, id_of, optional_of};
 use crate::reading::numbers::{counted_of, four_of};
+use crate::reading::pool::Pool;
 use lazy_msgs::Msg;
 use std::alloc::Global;
 use view_config::Edition;
 
+#[tactic(auto, using(crate::proofs::Ends::end_same))]
 #[inline(always)]
 pub fn append_of(
     alloc: Global,
@@ -22,7 +24,8 @@ pub fn append_of(
 {
     let view = counted_of(size, left)?;
     let id = id_of(size, left)?;
-    let bytes = optional_of(alloc, edition, size, left)?;
+    let mut pool = Pool::new(alloc, 1, left);
+    let bytes = optional_of(edition, size, &mut pool, left)?;
     Ok(Msg::Append { view, id, bytes })
 }
 
@@ -35,6 +38,7 @@ pub fn append_ack_of(size: usize, left: &mut &[u8]) -> Result<Msg, FrameError>
     Ok(Msg::AppendAck { view, id })
 }
 
+#[tactic(auto, using(crate::proofs::Ends::end_same))]
 #[inline(always)]
 pub fn put_of(
     alloc: Global,
@@ -45,7 +49,8 @@ pub fn put_of(
     ensures { Gives result left.new.now (two_fields (id_at size) (bytes_at edition) Put left.old.now) }
 {
     let id = id_of(size, left)?;
-    let bytes = bytes_of(alloc, edition, left)?;
+    let mut pool = Pool::new(alloc, 1, left);
+    let bytes = bytes_of(edition, &mut pool, left)?;
     Ok(Msg::Put { id, bytes })
 }
 
