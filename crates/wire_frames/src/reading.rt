@@ -106,6 +106,10 @@ fn whole_of(alloc: Global, bytes: &[u8]) -> Result<(Edition, Envelope), FrameErr
 /// It goes over the bytes once. Memory for the members of a list is asked for at once where the bytes
 /// that are left can hold so many, and else grows with the members that are there: so no count takes
 /// more than the bytes give.
+///
+/// The data of a list's members are slices of one copy of the list's bytes, made for the first of them.
+/// So data takes memory once a list, and the whole copy stays in memory for as long as one member's
+/// data does.
 pub fn decode(alloc: Global, bytes: &[u8]) -> Result<(Edition, Envelope), FrameError>
     // What is read is spelled so, each byte of it.
     ensures form { IfOk result (λ found. Fits found.0 found.1 × (bytes.now ≡ frame found.0 found.1)) }

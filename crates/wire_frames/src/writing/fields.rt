@@ -86,14 +86,15 @@ fn put_kept(out: &mut Vec<u8>, edition: Edition, bytes: &Bytes) -> Result<(), Al
     requires { BytesFit edition bytes.now }
     ensures { OnOk result (out.new.items ≡ out.old.items ++ 1 ∷ bytes_form edition bytes.now) }
 {
+    let kept = bytes.as_slice();
     let mut size = [0u8; 4];
-    BigEndian::write_u32(&mut size, bytes.len() as u32);
+    BigEndian::write_u32(&mut size, kept.len() as u32);
     let [first, second, third, last] = size;
     match edition {
         Edition::One => out.extend_from_slice(&[1, third, last])?,
         Edition::Two => out.extend_from_slice(&[1, first, second, third, last])?,
     }
-    out.extend_from_slice(bytes.as_slice())
+    out.extend_from_slice(kept)
 }
 
 pub fn put_optional(
